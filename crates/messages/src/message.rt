@@ -1,18 +1,11 @@
 // What a message says.
 
-// The side of an order.
-#[derive(Clone, Copy, PartialEq, Eq, Debug)]
-pub enum OrderSide {
-    Buy,
-    Sell,
-}
-
-// What is done with a leg when its strategy is bought.
-#[derive(Clone, Copy, PartialEq, Eq, Debug)]
-pub enum LegSide {
-    Bought,
-    Sold,
-}
+use crate::codes::LegSide;
+use crate::codes::LegSideDebug;
+use crate::codes::LegSidePartialEq;
+use crate::codes::OrderSide;
+use crate::codes::OrderSideDebug;
+use crate::codes::OrderSidePartialEq;
 
 // A leg of a definition, in numbers wider than their fields.
 #[derive(Clone, Copy, PartialEq, Eq, Debug)]
