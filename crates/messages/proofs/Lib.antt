@@ -1,2 +1,5 @@
 pub mod FieldLaws
 pub mod Offences
+pub mod Fitting
+pub mod Imaging
+pub mod Bytes

@@ -4,3 +4,4 @@ pub mod Faults
 pub mod Limits
 pub mod Layout
 pub mod Reading
+pub mod Writing

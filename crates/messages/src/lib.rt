@@ -5,6 +5,7 @@ mod fault;
 mod fields;
 mod message;
 mod reader;
+mod writer;
 
 pub use codes::LegSide;
 pub use codes::OrderSide;

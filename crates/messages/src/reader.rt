@@ -1,11 +1,10 @@
 // The reader of messages.
 ghost use mathlib.Core.Path.{_≡_};
-ghost use mathlib.Core.Bool.{cond};
 ghost use Prim.Native.Nat.{ℕ, _+_, _-_, _*_, _/_, _%_, _^_, _<_, _≤_};
 ghost use lib.ListN.{length, getD};
 ghost use Rattle.messages.specs.declared.codes.Kind.the-variants.{Define};
 ghost use Rattle.messages.specs.Faults.{reader-fault};
-ghost use Rattle.messages.specs.Layout.{order-layout, leg-layout, define-layout, layout, all-ones};
+ghost use Rattle.messages.specs.Layout.{order-layout, leg-layout, define-layout, layout};
 ghost use Rattle.messages.specs.Limits.{limit-in};
 ghost use Rattle.messages.specs.Reading.{first, first-offence, order-fields, leg-at, leg-count, said, read-of};
 use crate::bits::BitReader;
@@ -19,6 +18,7 @@ use crate::fields::CANCEL;
 use crate::fields::EVALUATE;
 use crate::fields::OrderFields;
 use crate::fields::PLACE;
+use crate::fields::most;
 use crate::message::LegFields;
 use crate::message::Message;
 use crate::message::Received;
@@ -35,14 +35,6 @@ fn limit_of(edition: u64, raw: u64) -> i64
     } else {
         value
     }
-}
-
-// The greatest value of a part of a leg, which is 0 beyond the count.
-fn most(within: bool, width: usize) -> u64
-    requires { ⌜ width ≤ 32 ⌝ }
-    ensures { λ r. ⌜ r ≡ cond within (all-ones width) 0 ⌝ }
-{
-    if within { (1 << width) - 1 } else { 0 }
 }
 
 fn fault(reason: Reason, bit: u32) -> ReaderFault
