@@ -58,7 +58,7 @@ field-cut bs p w t =
     let f = fieldIn bs p w in
     let l = fieldIn bs (p + w) t in
     let whole : fieldIn bs 0 (p + (w + t)) ≡ (a * 2 ^ w + f) * 2 ^ t + l =
-        omega (arith, field-add bs 0 p (w + t), ap (λ (x : ℕ). fieldIn bs x (w + t)) (zero-add p), field-add bs p w t, ap (λ (x : ℕ). a * x) (pow-add 2 w t), mul-assoc a (2 ^ w) (2 ^ t), add-mul (a * 2 ^ w) f (2 ^ t)) in
+    omega (arith, field-add bs 0 p (w + t), ap (λ (x : ℕ). fieldIn bs x (w + t)) (zero-add p), field-add bs p w t, ap (λ (x : ℕ). a * x) (pow-add 2 w t), mul-assoc a (2 ^ w) (2 ^ t), add-mul (a * 2 ^ w) f (2 ^ t)) in
     ap (λ (x : ℕ). x / 2 ^ t % 2 ^ w) whole ∙ ap (λ (x : ℕ). x % 2 ^ w) (high (a * 2 ^ w + f) t (field-lt bs (p + w) t)) ∙ low a w (field-lt bs p w)
 
 -- the first bits of a byte

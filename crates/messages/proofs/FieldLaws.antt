@@ -41,7 +41,7 @@ field-cut bs o p w t =
     let f = field bs (o + p) w in
     let l = field bs (o + p + w) t in
     let whole : field bs o (p + (w + t)) ≡ (a * 2 ^ w + f) * 2 ^ t + l =
-        omega (arith, field-add bs o p (w + t), field-add bs (o + p) w t, ap (λ (x : ℕ). a * x) (pow-add 2 w t), mul-assoc a (2 ^ w) (2 ^ t), add-mul (a * 2 ^ w) f (2 ^ t)) in
+    omega (arith, field-add bs o p (w + t), field-add bs (o + p) w t, ap (λ (x : ℕ). a * x) (pow-add 2 w t), mul-assoc a (2 ^ w) (2 ^ t), add-mul (a * 2 ^ w) f (2 ^ t)) in
     ap (λ (x : ℕ). x / 2 ^ t % 2 ^ w) whole ∙ ap (λ (x : ℕ). x % 2 ^ w) (high (a * 2 ^ w + f) t (field-lt bs (o + p + w) t)) ∙ low a w (field-lt bs (o + p) w)
 
 -- the first bits of a byte

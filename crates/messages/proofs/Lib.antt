@@ -3,3 +3,8 @@ pub mod Offences
 pub mod Fitting
 pub mod Imaging
 pub mod Bytes
+pub mod Trips
+pub mod Coding
+pub mod Readings
+pub mod Saying
+pub mod Round

@@ -5,3 +5,4 @@ pub mod Limits
 pub mod Layout
 pub mod Reading
 pub mod Writing
+pub mod Laws

@@ -46,14 +46,14 @@ unless (Some place) x = Err (reader-fault Field place)
 -- the fields that placing, cancelling and evaluating share
 abbrev pub order-fields : List ℕ → OrderFields
 order-fields bytes = record {
-    strategy = field bytes 8 8;
-    side = field bytes 16 1;
-    market = field bytes 17 1;
-    «time_in_force» = field bytes 18 2;
-    limit = field bytes 20 32;
-    quantity = field bytes 52 16;
-    number = field bytes 68 32
-  }
+  strategy = field bytes 8 8;
+  side = field bytes 16 1;
+  market = field bytes 17 1;
+  «time_in_force» = field bytes 18 2;
+  limit = field bytes 20 32;
+  quantity = field bytes 52 16;
+  number = field bytes 68 32;
+}
 
 -- the leg whose bits begin at `place`
 abbrev pub leg-at : List ℕ → ℕ → LegFields

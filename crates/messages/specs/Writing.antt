@@ -1,4 +1,5 @@
 -- The bytes that say a message, in edition 2.
+use mathlib.Core.Path.{_≡_}
 use mathlib.Core.Bool.{Bool, true, cond, _&&_}
 use mathlib.Core.List.{List, [], _∷_, _++_}
 use Prim.Native.Nat.{ℕ, _+_, _-_, _*_, _^_}
@@ -39,6 +40,13 @@ order-fields-of (Place s d m t l q) = record { strategy = s; side = order-side-c
 order-fields-of (Cancel n) = record { strategy = 0; side = 0; market = 0; «time_in_force» = 0; limit = 0; quantity = 0; number = n }
 order-fields-of (Evaluate s) = record { strategy = s; side = 0; market = 0; «time_in_force» = 0; limit = 0; quantity = 0; number = 0 }
 order-fields-of (Define c legs) = record { strategy = 0; side = 0; market = 0; «time_in_force» = 0; limit = 0; quantity = 0; number = 0 }
+
+-- a definition has four legs, counted or not
+abbrev pub Four-legged : Message → Type 0
+Four-legged (Place strategy side market time limit quantity) = Unit {0}
+Four-legged (Cancel number) = Unit {0}
+Four-legged (Evaluate strategy) = Unit {0}
+Four-legged (Define count legs) = length legs ≡ 4
 
 -- the values of fields in their order, the unused bits last
 abbrev pub order-values : OrderFields → List ℕ

@@ -66,7 +66,11 @@ impl OrderSide {
     pub(crate) fn coded(bit: u64) -> OrderSide
         ensures { λ r. ⌜ r ≡ order-side-coded bit ⌝ }
     {
-        if bit == 0 { OrderSide::Buy } else { OrderSide::Sell }
+        if bit == 0 {
+            OrderSide::Buy
+        } else {
+            OrderSide::Sell
+        }
     }
 }
 
@@ -92,7 +96,11 @@ impl LegSide {
     pub(crate) fn coded(bit: u64) -> LegSide
         ensures { λ r. ⌜ r ≡ leg-side-coded bit ⌝ }
     {
-        if bit == 0 { LegSide::Bought } else { LegSide::Sold }
+        if bit == 0 {
+            LegSide::Bought
+        } else {
+            LegSide::Sold
+        }
     }
 }
 

@@ -32,7 +32,11 @@ impl ReaderFault {
         } else {
             Reason::Field
         };
-        Refusal { station: Station::Reader, reason, bit: self.bit }
+        Refusal {
+            station: Station::Reader,
+            reason,
+            bit: self.bit,
+        }
     }
 }
 

@@ -17,16 +17,37 @@ pub(crate) struct OrderFields {
 }
 
 // Placing uses all but the number.
-pub(crate) const PLACE: OrderFields =
-    OrderFields { strategy: 255, side: 1, market: 1, time_in_force: 1, limit: 0xFFFF_FFFF, quantity: 65535, number: 0 };
+pub(crate) const PLACE: OrderFields = OrderFields {
+    strategy: 255,
+    side: 1,
+    market: 1,
+    time_in_force: 1,
+    limit: 0xFFFF_FFFF,
+    quantity: 65535,
+    number: 0,
+};
 
 // Cancelling uses only the number.
-pub(crate) const CANCEL: OrderFields =
-    OrderFields { strategy: 0, side: 0, market: 0, time_in_force: 0, limit: 0, quantity: 0, number: 0xFFFF_FFFF };
+pub(crate) const CANCEL: OrderFields = OrderFields {
+    strategy: 0,
+    side: 0,
+    market: 0,
+    time_in_force: 0,
+    limit: 0,
+    quantity: 0,
+    number: 0xFFFF_FFFF,
+};
 
 // Evaluating uses only the strategy.
-pub(crate) const EVALUATE: OrderFields =
-    OrderFields { strategy: 255, side: 0, market: 0, time_in_force: 0, limit: 0, quantity: 0, number: 0 };
+pub(crate) const EVALUATE: OrderFields = OrderFields {
+    strategy: 255,
+    side: 0,
+    market: 0,
+    time_in_force: 0,
+    limit: 0,
+    quantity: 0,
+    number: 0,
+};
 
 // The greatest value of a part of a leg, which is 0 beyond the count.
 pub(crate) fn most(within: bool, width: usize) -> u64

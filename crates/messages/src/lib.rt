@@ -15,3 +15,5 @@ pub use fault::WriterFault;
 pub use message::LegFields;
 pub use message::Message;
 pub use message::Received;
+pub use reader::read;
+pub use writer::write;

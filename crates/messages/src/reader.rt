@@ -4,6 +4,7 @@ ghost use Prim.Native.Nat.{ℕ, _+_, _-_, _*_, _/_, _%_, _^_, _<_, _≤_};
 ghost use lib.ListN.{length, getD};
 ghost use Rattle.messages.specs.declared.codes.Kind.the-variants.{Define};
 ghost use Rattle.messages.specs.Faults.{reader-fault};
+ghost use Rattle.messages.specs.Laws.{Accepted, Said, Written-back};
 ghost use Rattle.messages.specs.Layout.{order-layout, leg-layout, define-layout, layout};
 ghost use Rattle.messages.specs.Limits.{limit-in};
 ghost use Rattle.messages.specs.Reading.{first, first-offence, order-fields, leg-at, leg-count, said, read-of};
@@ -40,7 +41,10 @@ fn limit_of(edition: u64, raw: u64) -> i64
 fn fault(reason: Reason, bit: u32) -> ReaderFault
     ensures { λ r. ⌜ r ≡ reader-fault reason bit ⌝ }
 {
-    ReaderFault { number: reason.number(), bit }
+    ReaderFault {
+        number: reason.number(),
+        bit,
+    }
 }
 
 impl BitReader<'_> {
@@ -60,7 +64,15 @@ impl BitReader<'_> {
         let quantity = self.field(16, greatest.quantity);
         let number = self.field(32, greatest.number);
         self.unused_bits(12);
-        OrderFields { strategy, side, market, time_in_force, limit, quantity, number }
+        OrderFields {
+            strategy,
+            side,
+            market,
+            time_in_force,
+            limit,
+            quantity,
+            number,
+        }
     }
 
     // The next leg, which answers its own first bit; one beyond the count is 0.
@@ -76,7 +88,11 @@ impl BitReader<'_> {
         let series = self.part(10, most(within, 10), place);
         let side = self.part(1, most(within, 1), place);
         let ratio = self.part(4, most(within, 4), place);
-        LegFields { series, side: LegSide::coded(side), ratio }
+        LegFields {
+            series,
+            side: LegSide::coded(side),
+            ratio,
+        }
     }
 
     // A definition: its leg count and four legs.
@@ -92,7 +108,10 @@ impl BitReader<'_> {
         let third = self.leg(2 < count);
         let fourth = self.leg(3 < count);
         self.unused_bits(40);
-        Message::Define { count, legs: [first, second, third, fourth] }
+        Message::Define {
+            count,
+            legs: [first, second, third, fourth],
+        }
     }
 
     // The message of a kind, read from behind the head.
@@ -114,8 +133,12 @@ impl BitReader<'_> {
                     quantity: fields.quantity,
                 }
             }
-            Kind::Cancel => Message::Cancel { number: self.order_fields(&CANCEL).number },
-            Kind::Evaluate => Message::Evaluate { strategy: self.order_fields(&EVALUATE).strategy },
+            Kind::Cancel => Message::Cancel {
+                number: self.order_fields(&CANCEL).number,
+            },
+            Kind::Evaluate => Message::Evaluate {
+                strategy: self.order_fields(&EVALUATE).strategy,
+            },
             Kind::Define => self.definition(),
         }
     }
@@ -128,7 +151,11 @@ fn parse(bytes: &[u8]) -> Result<Received, ReaderFault>
     if bytes.len() != 14 {
         return Err(fault(Reason::Length, 0));
     }
-    let mut reader = BitReader { bytes, at: 0, offence: None };
+    let mut reader = BitReader {
+        bytes,
+        at: 0,
+        offence: None,
+    };
     let edition = reader.number(4);
     if edition != UNSIGNED_EDITION && edition != SIGNED_EDITION {
         return Err(fault(Reason::Edition, 0));
@@ -141,4 +168,15 @@ fn parse(bytes: &[u8]) -> Result<Received, ReaderFault>
         Some(bit) => Err(fault(Reason::Field, bit)),
         None => Ok(Received { edition, message }),
     }
+}
+
+// The message that bytes say, with its edition, or why they say none. They are accepted exactly if they are lawful, each field is
+// the number that its bits write, and a message of edition 2 is written back to the same bytes.
+pub fn read(bytes: &[u8]) -> Result<Received, ReaderFault>
+    ensures answer { λ r. ⌜ r ≡ read-of (now (bytes .entry)) ⌝ }
+    ensures accepted { λ r. ⌜ Accepted (now (bytes .entry)) r ⌝ }
+    ensures said { λ r. ⌜ Said (now (bytes .entry)) r ⌝ }
+    ensures back { λ r. ⌜ Written-back (now (bytes .entry)) r ⌝ }
+{
+    parse(bytes)
 }

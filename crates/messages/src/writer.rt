@@ -4,12 +4,14 @@ ghost use mathlib.Core.Bool.{true};
 ghost use Prim.Native.Nat.{ℕ, _+_, _-_, _*_, _/_, _%_, _^_, _<_, _≤_};
 ghost use mathlib.Core.List.{[], _∷_};
 ghost use lib.ListN.{length, getD};
+ghost use Rattle.std.specs.Vec.{made};
 ghost use Rattle.messages.specs.declared.message.Message.the-variants.{Place, Cancel, Evaluate, Define};
 ghost use Rattle.messages.specs.Bits.{bytes-of};
 ghost use Rattle.messages.specs.Codes.{signed-edition, kind-code};
+ghost use Rattle.messages.specs.Laws.{Read-back};
 ghost use Rattle.messages.specs.Layout.{head-layout, order-layout, place-greatest, leg-layout, define-layout};
 ghost use Rattle.messages.specs.Limits.{limit-fits, limit-bits};
-ghost use Rattle.messages.specs.Writing.{order-fields-of, order-values, leg-values, all-within, fits, image, values-of, image-of, write-answer, written};
+ghost use Rattle.messages.specs.Writing.{order-fields-of, order-values, leg-values, all-within, fits, Four-legged, image, values-of, image-of, writable, write-answer, written};
 use crate::codes::Kind;
 use crate::codes::OrderSide;
 use crate::codes::SIGNED_EDITION;
@@ -62,28 +64,61 @@ impl LegFields {
     fn within(&self, counted: bool) -> bool
         ensures { λ r. ⌜ r ≡ all-within (leg-layout counted 0) (leg-values (now (self .entry))) ⌝ }
     {
-        self.series <= most(counted, 10) && self.side.code() <= most(counted, 1) && self.ratio <= most(counted, 4)
+        self.series <= most(counted, 10)
+            && self.side.code() <= most(counted, 1)
+            && self.ratio <= most(counted, 4)
     }
 }
 
 // The fields of a message that places an order, whose limit fits.
-fn placing(strategy: u64, side: OrderSide, market: bool, time_in_force: u64, limit: i64, quantity: u64) -> OrderFields
+fn placing(
+    strategy: u64,
+    side: OrderSide,
+    market: bool,
+    time_in_force: u64,
+    limit: i64,
+    quantity: u64,
+) -> OrderFields
     requires { ⌜ limit-fits limit ≡ true ⌝ }
     ensures { λ r. ⌜ r ≡ order-fields-of (Place strategy side market «time_in_force» limit quantity) ⌝ }
 {
-    OrderFields { strategy, side: side.code(), market: market as u64, time_in_force, limit: limit_bits(limit), quantity, number: 0 }
+    OrderFields {
+        strategy,
+        side: side.code(),
+        market: market as u64,
+        time_in_force,
+        limit: limit_bits(limit),
+        quantity,
+        number: 0,
+    }
 }
 
 fn cancelling(number: u64) -> OrderFields
     ensures { λ r. ⌜ r ≡ order-fields-of (Cancel number) ⌝ }
 {
-    OrderFields { strategy: 0, side: 0, market: 0, time_in_force: 0, limit: 0, quantity: 0, number }
+    OrderFields {
+        strategy: 0,
+        side: 0,
+        market: 0,
+        time_in_force: 0,
+        limit: 0,
+        quantity: 0,
+        number,
+    }
 }
 
 fn evaluating(strategy: u64) -> OrderFields
     ensures { λ r. ⌜ r ≡ order-fields-of (Evaluate strategy) ⌝ }
 {
-    OrderFields { strategy, side: 0, market: 0, time_in_force: 0, limit: 0, quantity: 0, number: 0 }
+    OrderFields {
+        strategy,
+        side: 0,
+        market: 0,
+        time_in_force: 0,
+        limit: 0,
+        quantity: 0,
+        number: 0,
+    }
 }
 
 // Whether the leg count and the legs of a definition may stand in their fields.
@@ -102,8 +137,16 @@ fn fit(message: &Message) -> bool
     ensures { λ r. ⌜ r ≡ fits (now (message .entry)) ⌝ }
 {
     match *message {
-        Message::Place { strategy, side, market, time_in_force, limit, quantity } => {
-            limit_fits(limit) && placing(strategy, side, market, time_in_force, limit, quantity).within(&PLACE)
+        Message::Place {
+            strategy,
+            side,
+            market,
+            time_in_force,
+            limit,
+            quantity,
+        } => {
+            limit_fits(limit)
+                && placing(strategy, side, market, time_in_force, limit, quantity).within(&PLACE)
         }
         Message::Cancel { number } => cancelling(number).within(&CANCEL),
         Message::Evaluate { strategy } => evaluating(strategy).within(&EVALUATE),
@@ -159,7 +202,9 @@ fn leg_image(leg: &LegFields, place: usize) -> u128
     ensures image { λ r. ⌜ r ≡ image (leg-layout true place) (leg-values (now (leg .entry))) ⌝ }
     ensures bound { λ r. ⌜ r < 2 ^ 114 ⌝ }
 {
-    placed(leg.series, place, 10) + placed(leg.side.code(), place + 10, 1) + placed(leg.ratio, place + 11, 4)
+    placed(leg.series, place, 10)
+        + placed(leg.side.code(), place + 10, 1)
+        + placed(leg.ratio, place + 11, 4)
 }
 
 // The bits of a definition behind the head.
@@ -167,6 +212,7 @@ fn define_image(count: u64, legs: &[LegFields; 4]) -> u128
     requires { ⌜ fits (Define count (now legs)) ≡ true ⌝ }
     ensures image { λ r. ⌜ r ≡ image (define-layout count) (values-of (Define count (now (legs .entry)))) ⌝ }
     ensures bound { λ r. ⌜ r < 2 ^ 117 ⌝ }
+    ensures legs { λ _. ⌜ length (now (legs .entry)) ≡ 4 ⌝ }
 {
     placed(count, 8, 4)
         + leg_image(&legs[0], 12)
@@ -178,14 +224,24 @@ fn define_image(count: u64, legs: &[LegFields; 4]) -> u128
 // The 112 bits of a message that fits.
 fn image(message: &Message) -> u128
     requires { ⌜ fits (now message) ≡ true ⌝ }
-    ensures { λ r. ⌜ r ≡ image-of (now (message .entry)) ⌝ }
+    ensures image { λ r. ⌜ r ≡ image-of (now (message .entry)) ⌝ }
+    ensures legs { λ _. ⌜ Four-legged (now (message .entry)) ⌝ }
 {
     match *message {
-        Message::Place { strategy, side, market, time_in_force, limit, quantity } => {
-            head_image(Kind::Place) + order_image(&placing(strategy, side, market, time_in_force, limit, quantity))
+        Message::Place {
+            strategy,
+            side,
+            market,
+            time_in_force,
+            limit,
+            quantity,
+        } => {
+            head_image(Kind::Place)
+                + order_image(&placing(strategy, side, market, time_in_force, limit, quantity))
         }
         Message::Cancel { number } => head_image(Kind::Cancel) + order_image(&cancelling(number)),
-        Message::Evaluate { strategy } => head_image(Kind::Evaluate) + order_image(&evaluating(strategy)),
+        Message::Evaluate { strategy } => head_image(Kind::Evaluate)
+            + order_image(&evaluating(strategy)),
         Message::Define { count, legs } => head_image(Kind::Define) + define_image(count, &legs),
     }
 }
@@ -198,4 +254,26 @@ fn put(image: u128, room: &mut [u8])
     for i in 0..14 {
         room[i] = (image >> (104 - 8 * i) & 255) as u8;
     }
+}
+
+// Whether a message fits and the room is as long as a message.
+fn is_writable(message: &Message, room: &[u8]) -> bool
+    ensures { λ r. ⌜ r ≡ writable (now (message .entry)) (now (room .entry)) ⌝ }
+{
+    room.len() == 14 && fit(message)
+}
+
+// Writes a message into 14 bytes of the host's, in edition 2; refused, it writes none. What was written is read back.
+pub fn write(message: &Message, room: &mut [u8]) -> Result<(), WriterFault>
+    ensures answer { λ r. ⌜ r ≡ write-answer (now (message .entry)) (now (room .entry)) ⌝ }
+    ensures room { λ r. ⌜ now (room .exit) ≡ written (now (message .entry)) (now (room .entry)) ⌝ }
+    ensures back { λ r. ⌜ made r (λ _. Read-back (now (message .entry)) (now (room .exit))) ⌝ }
+{
+    if !is_writable(message, room) {
+        return Err(WriterFault {
+            number: Reason::Unwritable.number(),
+        });
+    }
+    put(image(message), room);
+    Ok(())
 }

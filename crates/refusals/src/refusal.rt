@@ -22,7 +22,11 @@ impl Refusal {
     pub fn at(station: Station, reason: Reason) -> Refusal
         ensures { λ r. ⌜ r ≡ refused-at station reason ⌝ }
     {
-        Refusal { station, reason, bit: 0 }
+        Refusal {
+            station,
+            reason,
+            bit: 0,
+        }
     }
 
     // The number in the refusal table.

@@ -1,3 +1,4 @@
+use borrow.Author.Needs.{needs}
 use native.Mathlib.Omega.{arith}
 use Rattle.messages.specs.Layout.{unused-bits}
 use Rattle.messages.proofs.Fitting.{define-narrow}
@@ -17,4 +18,4 @@ leg-image-requires-4 c κs = let p = define-narrow (c .args .count) (c .args .le
 
 pub returns : need.returns
 unfolding unused-bits
-returns c = record { image = omega arith; bound = omega arith }
+returns c = record { image = omega arith; bound = omega arith; legs = search needs }

@@ -40,12 +40,12 @@ returns c =
     record {
       value = λ i. Define (count i) (l1 i ∷ (l2 i ∷ (l3 i ∷ (l4 i ∷ []))));
       noted =
-        c .unused-bits .ensures .noted
-        ∙ ap (λ (p : ℕ). first (c .leg-fourth .last .self .offence) (first-offence (c .leg-fourth .last .self .bytes .now) (unused-bits p 40))) a4
-        ∙ ap (λ (b : List ℕ). first (c .leg-fourth .last .self .offence) (first-offence b (unused-bits 72 40))) s4
-        ∙ all-noted bs (leg-layout (ltb 3 n) 57) (unused-bits 72 40) (c .leg-third .last .self .offence) (c .leg-fourth .last .self .offence) s3 (legs 3 57 _ a3) (c .leg-fourth .ensures .noted)
-        ∙ all-noted bs (leg-layout (ltb 2 n) 42) f4 (c .leg-second .last .self .offence) (c .leg-third .last .self .offence) s2 (legs 2 42 _ a2) (c .leg-third .ensures .noted)
-        ∙ all-noted bs (leg-layout (ltb 1 n) 27) f3 (c .leg-first .last .self .offence) (c .leg-second .last .self .offence) s1 (legs 1 27 _ a1) (c .leg-second .ensures .noted)
-        ∙ all-noted bs (leg-layout (ltb 0 n) 12) f2 (c .field-count .last .self .offence) (c .leg-first .last .self .offence) s0 (legs 0 12 _ a0) (c .leg-first .ensures .noted)
-        ∙ noted bs (up-to 8 4 15) f1 (c .args .self .now .offence) (c .field-count .last .self .offence) refl (ap (λ (p : ℕ). up-to p 4 15) (c .pre .begins)) (c .field-count .ensures .noted)
+          c .unused-bits .ensures .noted
+          ∙ ap (λ (p : ℕ). first (c .leg-fourth .last .self .offence) (first-offence (c .leg-fourth .last .self .bytes .now) (unused-bits p 40))) a4
+          ∙ ap (λ (b : List ℕ). first (c .leg-fourth .last .self .offence) (first-offence b (unused-bits 72 40))) s4
+          ∙ all-noted bs (leg-layout (ltb 3 n) 57) (unused-bits 72 40) (c .leg-third .last .self .offence) (c .leg-fourth .last .self .offence) s3 (legs 3 57 _ a3) (c .leg-fourth .ensures .noted)
+          ∙ all-noted bs (leg-layout (ltb 2 n) 42) f4 (c .leg-second .last .self .offence) (c .leg-third .last .self .offence) s2 (legs 2 42 _ a2) (c .leg-third .ensures .noted)
+          ∙ all-noted bs (leg-layout (ltb 1 n) 27) f3 (c .leg-first .last .self .offence) (c .leg-second .last .self .offence) s1 (legs 1 27 _ a1) (c .leg-second .ensures .noted)
+          ∙ all-noted bs (leg-layout (ltb 0 n) 12) f2 (c .field-count .last .self .offence) (c .leg-first .last .self .offence) s0 (legs 0 12 _ a0) (c .leg-first .ensures .noted)
+          ∙ noted bs (up-to 8 4 15) f1 (c .args .self .now .offence) (c .field-count .last .self .offence) refl (ap (λ (p : ℕ). up-to p 4 15) (c .pre .begins)) (c .field-count .ensures .noted);
     }

@@ -37,14 +37,14 @@ returns c =
       value = cc;
       narrow = omega (arith, c .field-limit .ensures .value, field-lt (c .field-time-in-force .last .self .bytes .now) (c .field-time-in-force .last .self .at) 32);
       noted =
-        c .unused-bits .ensures .noted
-        ∙ ap (λ (p : ℕ). first (c .field-number .last .self .offence) (first-offence (c .field-number .last .self .bytes .now) (unused-bits p 12))) a7
-        ∙ ap (λ (b : List ℕ). first (c .field-number .last .self .offence) (first-offence b f8)) s7
-        ∙ noted bs (up-to 68 32 (g .number)) f8 (c .field-quantity .last .self .offence) (c .field-number .last .self .offence) s6 (ap (λ (p : ℕ). up-to p 32 (g .number)) a6) (c .field-number .ensures .noted)
-        ∙ noted bs (up-to 52 16 (g .quantity)) f7 (c .field-limit .last .self .offence) (c .field-quantity .last .self .offence) s5 (ap (λ (p : ℕ). up-to p 16 (g .quantity)) a5) (c .field-quantity .ensures .noted)
-        ∙ noted bs (up-to 20 32 (g .limit)) f6 (c .field-time-in-force .last .self .offence) (c .field-limit .last .self .offence) s4 (ap (λ (p : ℕ). up-to p 32 (g .limit)) a4) (c .field-limit .ensures .noted)
-        ∙ noted bs (up-to 18 2 (g .«time_in_force»)) f5 (c .field-market .last .self .offence) (c .field-time-in-force .last .self .offence) s3 (ap (λ (p : ℕ). up-to p 2 (g .«time_in_force»)) a3) (c .field-time-in-force .ensures .noted)
-        ∙ noted bs (up-to 17 1 (g .market)) f4 (c .field-side .last .self .offence) (c .field-market .last .self .offence) s2 (ap (λ (p : ℕ). up-to p 1 (g .market)) a2) (c .field-market .ensures .noted)
-        ∙ noted bs (up-to 16 1 (g .side)) f3 (c .field-strategy .last .self .offence) (c .field-side .last .self .offence) s1 (ap (λ (p : ℕ). up-to p 1 (g .side)) a1) (c .field-side .ensures .noted)
-        ∙ noted bs (up-to 8 8 (g .strategy)) f2 (c .args .self .now .offence) (c .field-strategy .last .self .offence) refl (ap (λ (p : ℕ). up-to p 8 (g .strategy)) (c .pre .begins)) (c .field-strategy .ensures .noted)
+          c .unused-bits .ensures .noted
+          ∙ ap (λ (p : ℕ). first (c .field-number .last .self .offence) (first-offence (c .field-number .last .self .bytes .now) (unused-bits p 12))) a7
+          ∙ ap (λ (b : List ℕ). first (c .field-number .last .self .offence) (first-offence b f8)) s7
+          ∙ noted bs (up-to 68 32 (g .number)) f8 (c .field-quantity .last .self .offence) (c .field-number .last .self .offence) s6 (ap (λ (p : ℕ). up-to p 32 (g .number)) a6) (c .field-number .ensures .noted)
+          ∙ noted bs (up-to 52 16 (g .quantity)) f7 (c .field-limit .last .self .offence) (c .field-quantity .last .self .offence) s5 (ap (λ (p : ℕ). up-to p 16 (g .quantity)) a5) (c .field-quantity .ensures .noted)
+          ∙ noted bs (up-to 20 32 (g .limit)) f6 (c .field-time-in-force .last .self .offence) (c .field-limit .last .self .offence) s4 (ap (λ (p : ℕ). up-to p 32 (g .limit)) a4) (c .field-limit .ensures .noted)
+          ∙ noted bs (up-to 18 2 (g .«time_in_force»)) f5 (c .field-market .last .self .offence) (c .field-time-in-force .last .self .offence) s3 (ap (λ (p : ℕ). up-to p 2 (g .«time_in_force»)) a3) (c .field-time-in-force .ensures .noted)
+          ∙ noted bs (up-to 17 1 (g .market)) f4 (c .field-side .last .self .offence) (c .field-market .last .self .offence) s2 (ap (λ (p : ℕ). up-to p 1 (g .market)) a2) (c .field-market .ensures .noted)
+          ∙ noted bs (up-to 16 1 (g .side)) f3 (c .field-strategy .last .self .offence) (c .field-side .last .self .offence) s1 (ap (λ (p : ℕ). up-to p 1 (g .side)) a1) (c .field-side .ensures .noted)
+          ∙ noted bs (up-to 8 8 (g .strategy)) f2 (c .args .self .now .offence) (c .field-strategy .last .self .offence) refl (ap (λ (p : ℕ). up-to p 8 (g .strategy)) (c .pre .begins)) (c .field-strategy .ensures .noted);
     }

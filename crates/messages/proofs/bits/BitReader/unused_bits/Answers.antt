@@ -30,9 +30,9 @@ returns-after-loop c =
     let left = unused-all bs (start + c .loop .counter) w (c .loop .counter) (c .loop-test .left) in
     record {
       noted =
-        sym (first-none (c .loop .self .offence))
-        ∙ ap (first (c .loop .self .offence)) (sym left)
-        ∙ sym (c .loop .inv .2)
-        ∙ ap (λ (o : Option ℕ). first o (first-offence bs (unused-bits start w))) (c .number .ensures .kept)
-        ∙ ap (λ (b : List ℕ). first (c .args .self .now .offence) (first-offence b (unused-bits start w))) (c .number .ensures .same)
+          sym (first-none (c .loop .self .offence))
+          ∙ ap (first (c .loop .self .offence)) (sym left)
+          ∙ sym (c .loop .inv .2)
+          ∙ ap (λ (o : Option ℕ). first o (first-offence bs (unused-bits start w))) (c .number .ensures .kept)
+          ∙ ap (λ (b : List ℕ). first (c .args .self .now .offence) (first-offence b (unused-bits start w))) (c .number .ensures .same);
     }
