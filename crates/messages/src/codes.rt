@@ -9,7 +9,7 @@ pub(crate) const UNSIGNED_EDITION: u64 = 1;
 pub(crate) const SIGNED_EDITION: u64 = 2;
 
 // What a message asks for.
-#[derive(Clone, Copy, PartialEq, Eq, Debug)]
+#[derive(Clone, Copy)]
 pub(crate) enum Kind {
     Place,
     Cancel,

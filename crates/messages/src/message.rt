@@ -1,14 +1,10 @@
 // What a message says.
 
 use crate::codes::LegSide;
-use crate::codes::LegSideDebug;
-use crate::codes::LegSidePartialEq;
 use crate::codes::OrderSide;
-use crate::codes::OrderSideDebug;
-use crate::codes::OrderSidePartialEq;
 
 // A leg of a definition, in numbers wider than their fields.
-#[derive(Clone, Copy, PartialEq, Eq, Debug)]
+#[derive(Clone, Copy)]
 pub struct LegFields {
     pub series: u64,
     pub side: LegSide,
@@ -16,7 +12,7 @@ pub struct LegFields {
 }
 
 // A message by its kind. Its numbers are wider than their fields, so that one that does not fit can be refused.
-#[derive(Clone, Copy, PartialEq, Eq, Debug)]
+#[derive(Clone, Copy)]
 pub enum Message {
     Place {
         strategy: u64,
@@ -39,7 +35,7 @@ pub enum Message {
 }
 
 // A message that was read, and the edition that it came in.
-#[derive(Clone, Copy, PartialEq, Eq, Debug)]
+#[derive(Clone, Copy)]
 pub struct Received {
     pub edition: u64,
     pub message: Message,

@@ -2,6 +2,4 @@
 pub mod bytes;
 pub mod numbers;
 pub mod printable;
-#[cfg(test)]
-mod tests;
 pub mod words;

@@ -1,9 +1,13 @@
-// What the crate reads and writes, on examples.
-use super::bytes::*;
-use super::numbers::*;
-use super::printable::*;
-use super::words::*;
+// Words, numbers and bytes, on examples.
 use std::test::*;
+use text::bytes::hex_byte;
+use text::bytes::push_hex_byte;
+use text::numbers::number;
+use text::numbers::push_number;
+use text::numbers::push_signed;
+use text::numbers::signed_number;
+use text::printable::printable_line;
+use text::words::words;
 
 #[test]
 fn numbers_stay_within_their_bounds() -> Result<(), Fail> {
@@ -13,7 +17,8 @@ fn numbers_stay_within_their_bounds() -> Result<(), Fail> {
         None,
     )?;
     check_eq(signed_number(b"-9223372036854775808"), Some(i64::MIN))?;
-    check_eq(signed_number(b"9223372036854775808"), None)
+    check_eq(signed_number(b"9223372036854775808"), None)?;
+    check_eq(signed_number(b"+5"), None)
 }
 
 #[test]
