@@ -24,7 +24,7 @@ fn as_printable(b: u8) -> char
 }
 
 // Adds a word as it is shown, or nothing where memory fails.
-pub fn push_printable(out: &mut String, word: &[u8]) -> Result<(), AllocError>
+pub(crate) fn push_printable(out: &mut String, word: &[u8]) -> Result<(), AllocError>
     ensures { λ r. ⌜ string-bytes (now (out .exit)) ≡ cond (isOk r) (string-bytes (now (out .entry)) ++ printable-word (now (word .entry))) (string-bytes (now (out .entry))) ⌝ }
 {
     out.reserve(word.len())?;
