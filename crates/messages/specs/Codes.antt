@@ -1,5 +1,5 @@
 -- The codes that stand for kinds, sides and marks in a message, each said once.
-use mathlib.Core.Bool.{Bool, cond}
+use mathlib.Core.Bool.{Bool, true, cond}
 use Prim.Native.Nat.{ℕ}
 use lib.Dec.{eqb}
 use Rattle.std.specs.declared.option.Option.{Option}
@@ -50,6 +50,9 @@ time-code ImmediateOrCancel = 1
 -- a mark is one bit
 abbrev pub mark-code : Bool → ℕ
 mark-code marked = cond marked 1 0
+
+abbrev pub mark-coded : ℕ → Bool
+mark-coded n = eqb n (mark-code true)
 
 -- what one bit says, read the other way
 abbrev pub order-side-coded : ℕ → OrderSide

@@ -50,7 +50,7 @@ order-layout greatest =
 
 -- placing uses all but the number
 abbrev pub place-greatest : OrderFields
-place-greatest = record { strategy = all-ones 8; side = 1; market = 1; «time_in_force» = time-code ImmediateOrCancel; limit = all-ones 32; quantity = all-ones 16; number = 0 }
+place-greatest = record { strategy = all-ones 8; side = all-ones 1; market = all-ones 1; «time_in_force» = time-code ImmediateOrCancel; limit = all-ones 32; quantity = all-ones 16; number = 0 }
 
 -- cancelling uses only the number, evaluating only the strategy; a field that is not used is 0
 abbrev pub cancel-greatest : OrderFields

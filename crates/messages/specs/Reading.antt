@@ -18,7 +18,7 @@ use Rattle.messages.specs.declared.message.Message.{Message}
 use Rattle.messages.specs.declared.message.Message.the-variants.{Place, Cancel, Evaluate, Define}
 use Rattle.messages.specs.declared.message.Received.{Received}
 use Rattle.messages.specs.Bits.{message-bytes, field}
-use Rattle.messages.specs.Codes.{unsigned-edition, signed-edition, kind-coded, order-side-coded, leg-side-coded}
+use Rattle.messages.specs.Codes.{unsigned-edition, signed-edition, kind-coded, order-side-coded, leg-side-coded, mark-coded}
 use Rattle.messages.specs.Faults.{reader-fault}
 use Rattle.messages.specs.Layout as layouts
 use Rattle.messages.specs.Layout.{layout}
@@ -62,11 +62,15 @@ leg-at bytes place = record { series = field bytes place 10; side = leg-side-cod
 abbrev pub leg-count : List ℕ → ℕ
 leg-count bytes = field bytes 8 4
 
+-- the order that the fields place in an edition
+abbrev pub placed : ℕ → OrderFields → Message
+placed edition f = Place (f .strategy) (order-side-coded (f .side)) (mark-coded (f .market)) (f .«time_in_force») (limit-in edition (f .limit)) (f .quantity)
+
 -- the message of a kind that bytes say in an edition
 abbrev pub said : kinds.Kind → ℕ → List ℕ → Message
-said kind.Place edition bytes = Place (field bytes 8 8) (order-side-coded (field bytes 16 1)) (eqb (field bytes 17 1) 1) (field bytes 18 2) (limit-in edition (field bytes 20 32)) (field bytes 52 16)
-said kind.Cancel edition bytes = Cancel (field bytes 68 32)
-said kind.Evaluate edition bytes = Evaluate (field bytes 8 8)
+said kind.Place edition bytes = placed edition (order-fields bytes)
+said kind.Cancel edition bytes = Cancel (order-fields bytes .number)
+said kind.Evaluate edition bytes = Evaluate (order-fields bytes .strategy)
 said kind.Define edition bytes = Define (leg-count bytes) (leg-at bytes 12 ∷ leg-at bytes 27 ∷ leg-at bytes 42 ∷ leg-at bytes 57 ∷ [])
 
 abbrev pub received : ℕ → Message → Received

@@ -3,6 +3,7 @@ ghost use mathlib.Core.Path.{_≡_};
 ghost use mathlib.Core.Bool.{cond};
 ghost use Prim.Native.Nat.{ℕ, _^_, _-_, _≤_};
 ghost use Rattle.messages.specs.Layout.{all-ones};
+use crate::codes::TimeInForce;
 
 // The fields that placing, cancelling and evaluating share: their values, or the greatest value that each may have.
 #[derive(Clone, Copy)]
@@ -21,7 +22,7 @@ pub(crate) const PLACE: OrderFields = OrderFields {
     strategy: 255,
     side: 1,
     market: 1,
-    time_in_force: 1,
+    time_in_force: TimeInForce::ImmediateOrCancel as u64,
     limit: 0xFFFF_FFFF,
     quantity: 65535,
     number: 0,
