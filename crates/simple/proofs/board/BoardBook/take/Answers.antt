@@ -1,0 +1,5 @@
+use Rattle.simple.proofs.Boards.{take-carried}
+use Rattle.simple.proofs.board.BoardBook.take.Needs as need
+
+pub put-requires : need.put-requires
+put-requires c κs = take-carried (c .args .self .now) (c .args .series) (c .args .side) (c .args .quantity) (c .in-Continue-allow .ensures tt)

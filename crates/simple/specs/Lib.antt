@@ -1,0 +1,9 @@
+pub mod Limits
+pub mod Lots
+pub mod Best
+pub mod Take
+pub mod BestTold
+pub mod TakeMoved
+pub mod Board
+pub mod Hold
+pub mod Lawfulness
