@@ -1,3 +1,4 @@
 pub mod Holds
 pub mod Boards
 pub mod Requotes
+pub mod Pairs

@@ -1,3 +1,4 @@
+-- The frame that take leaves holds the lots of the series on hold.
 use mathlib.Core.Path.{_≡_, refl, ap, _∙_}
 use mathlib.Core.Bool.{Bool, true}
 use Prim.Native.Nat.{ℕ}

@@ -1,3 +1,4 @@
+-- Each place of the row has no quote.
 use Rattle.simple.proofs.Boards.{row-none}
 use Rattle.simple.proofs.board.no_quotes.Needs as need
 

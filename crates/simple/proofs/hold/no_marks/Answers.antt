@@ -1,3 +1,4 @@
+-- Each mark is clear.
 use mathlib.Core.Path.{refl}
 use Rattle.simple.specs.Hold.{no-marks}
 use Rattle.simple.proofs.Holds.{none-held}

@@ -1,3 +1,4 @@
+-- A take that is allowed is of a series that the board carries.
 use Rattle.simple.proofs.Boards.{take-carried}
 use Rattle.simple.proofs.board.BoardBook.take.Needs as need
 

@@ -1,3 +1,4 @@
+-- The side that is written is the one that shows the quotes.
 use mathlib.Core.Path.{sym, ap, _∙_}
 use Prim.Native.Nat.{_<_}
 use borrow.Author.Needs.{needs}

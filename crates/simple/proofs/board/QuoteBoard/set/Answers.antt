@@ -1,3 +1,4 @@
+-- The side is written with one of its two quotes set.
 use mathlib.Core.Path.{_≡_, ap, _∙_}
 use Rattle.simple.specs.Lots.{with-side}
 use Rattle.simple.specs.Board.{board-lots, quote-lot, requoted, quoted}

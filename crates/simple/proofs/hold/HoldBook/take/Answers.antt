@@ -1,3 +1,4 @@
+-- Nothing can be taken of a series on hold.
 use mathlib.Core.Path.{refl, sym, ap, _∙_}
 use Rattle.std.specs.declared.result.Result.the-variants.{Err}
 use Rattle.simple.proofs.Holds.{held-answer}
