@@ -2,16 +2,16 @@
 ghost use mathlib.Core.Path.{_≡_};
 ghost use Prim.Native.Nat.{_≤_};
 ghost use Rattle.simple.specs.Limits.{last-series};
-use simple::BoardBook;
-use simple::QuoteBoard;
-use simple::SimpleBook;
-use simple::HoldBook;
-use simple::HoldLayer;
-use simple::LentBook;
 use simple::Best;
 use simple::BestDebug;
 use simple::BestPartialEq;
+use simple::BoardBook;
+use simple::HoldBook;
+use simple::HoldLayer;
+use simple::LentBook;
+use simple::QuoteBoard;
 use simple::Side;
+use simple::SimpleBook;
 use std::test::*;
 
 // Takes from any book while one of its series is on hold: that series keeps its lots.

@@ -6,6 +6,8 @@ mod messages_read;
 #[cfg(test)]
 mod messages_written;
 #[cfg(test)]
+mod program_lines;
+#[cfg(test)]
 mod ranks;
 #[cfg(test)]
 mod refusal_table;

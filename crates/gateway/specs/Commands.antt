@@ -19,6 +19,7 @@ use Rattle.messages.specs.declared.message.Message.{Message}
 use Rattle.messages.specs.declared.message.Message.the-variants.{Place, Cancel, Evaluate, Define}
 use Rattle.messages.specs.Codes.{time-code}
 use Rattle.messages.specs.Writing.{no-leg}
+use Rattle.lines.specs.Words.{word}
 use Rattle.text.specs.Bytes.{byte-in}
 use Rattle.text.specs.Numbers.{number-in, signed-in}
 use Rattle.text.specs.Words.{parts-at}
@@ -58,10 +59,6 @@ leg-in w = then (parts-at 58 w) (λ p. signed-leg (p .0) (p .1))
 abbrev pub place-in : List ℕ → List ℕ → List ℕ → List ℕ → List ℕ → Option Message
 place-in strategy side limit time quantity =
     then (number-in strategy) (λ s. then (side-in side) (λ d. then (limit-in limit) (λ l. then (time-in time) (λ t. then (number-in quantity) (λ q. Some (Place s d (l .market) t (l .limit) q))))))
-
--- a word by its place
-abbrev pub word : List (List ℕ) → ℕ → List ℕ
-word ws i = getD ws i []
 
 -- the words behind `place`, `cancel` and `evaluate`
 abbrev pub place-words : List (List ℕ) → Option Message

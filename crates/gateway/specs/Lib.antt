@@ -1,3 +1,3 @@
 pub mod Commands
 pub mod Texts
-pub mod Lines
+pub mod Answers

@@ -7,10 +7,6 @@ use lib.Dec.{eqb}
 use lib.IntN.{ℤ, pos, negℤ, _-ℤ_}
 use lib.Signed.{leZ, ltZ}
 use Rattle.std.specs.Written.{decimal, signed}
-use Rattle.refusals.specs.declared.reason.Reason.the-variants.{Field}
-use Rattle.refusals.specs.declared.refusal.Refusal.{Refusal}
-use Rattle.refusals.specs.Reasons.{number-of}
-use Rattle.refusals.specs.Stations.{name-of}
 use Rattle.messages.specs.declared.codes.LegSide.{LegSide}
 use Rattle.messages.specs.declared.codes.LegSide.the-variants.{Bought, Sold}
 use Rattle.messages.specs.declared.codes.OrderSide.{OrderSide}
@@ -67,13 +63,6 @@ reread limit = cond (ltZ limit (pos (2 ^ 31))) limit (limit -ℤ pos (2 ^ 32))
 
 unfoldable pub warning-text : ℤ → List ℕ
 warning-text limit = codes "warning limit " ++ (signed limit ++ (codes " is beyond 40000000, in edition 2 it reads " ++ signed (reread limit)))
-
--- a refusal names its station, its number and, for a field, the bit place
-abbrev pub bit-text : Refusal → List ℕ
-bit-text r = cond (eqb (number-of (r .reason)) (number-of Field)) (codes " bit " ++ decimal (r .bit)) []
-
-abbrev pub refusal-text : Refusal → List ℕ
-refusal-text r = codes "refused " ++ (name-of (r .station) ++ (codes " " ++ (decimal (number-of (r .reason)) ++ bit-text r)))
 
 -- bytes are shown as two digits each, with a space between them
 abbrev pub gap-before : ℕ → List ℕ

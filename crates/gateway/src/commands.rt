@@ -1,10 +1,12 @@
 // What the words of a line ask for.
 ghost use mathlib.Core.Path.{_≡_};
-ghost use lib.ListN.{length, drop};
-ghost use Rattle.std.specs.shelf.Text.{sameBytes};
-ghost use Rattle.gateway.specs.Commands.{side-in, limit-in, time-in, leg-of, signed-leg, leg-in, place-in, word, place-words, cancel-words, evaluate-words, leg-word, define-words, kind-words, message-in};
+ghost use Rattle.gateway.specs.Commands.{side-in, limit-in, time-in, leg-of, signed-leg, leg-in, place-in, place-words, cancel-words, evaluate-words, leg-word, define-words, kind-words, message-in};
 ghost use Rattle.text.specs.Numbers.{number-in};
 ghost use Rattle.text.specs.Words.{lent};
+use lines::words::count;
+use lines::words::is;
+use lines::words::word_at;
+use lines::words::words_from;
 use messages::LegFields;
 use messages::LegSide;
 use messages::Message;
@@ -19,34 +21,6 @@ use text::words::split_once;
 pub(crate) struct Limit {
     pub(crate) market: bool,
     pub(crate) limit: i64,
-}
-
-// Whether a word is the one that is named.
-pub(crate) fn is(word: &[u8], name: &str) -> bool
-    ensures { λ r. ⌜ r ≡ sameBytes (now (word .entry)) (now (name .entry)) ⌝ }
-{
-    word == name.as_bytes()
-}
-
-// How many words there are.
-pub(crate) fn count(words: &[&[u8]]) -> usize
-    ensures { λ r. ⌜ r ≡ length (lent (now (words .entry))) ⌝ }
-{
-    words.len()
-}
-
-// The word at a place, which is empty behind the last.
-pub(crate) fn word_at<'a>(words: &[&'a [u8]], i: usize) -> &'a [u8]
-    ensures { λ r. ⌜ now r ≡ word (lent (now (words .entry))) i ⌝ }
-{
-    if i < words.len() { words[i] } else { b"" }
-}
-
-// The words from a place on.
-fn words_from<'a, 'b>(words: &'b [&'a [u8]], i: usize) -> &'b [&'a [u8]]
-    ensures { λ r. ⌜ lent (now r) ≡ drop i (lent (now (words .entry))) ⌝ }
-{
-    if i < words.len() { &words[i..] } else { &[] }
 }
 
 // The side that a word names.

@@ -2,7 +2,7 @@
 ghost use mathlib.Core.Path.{_≡_};
 ghost use Rattle.std.specs.Of.String.{string-bytes};
 ghost use Rattle.std.specs.Vec.{made};
-ghost use Rattle.gateway.specs.Lines.{complaint-text, more, more-if, nothing-counted, counted, tally-text};
+ghost use Rattle.gateway.specs.Answers.{complaint-text, more, more-if, nothing-counted, counted, tally-text};
 use std::alloc::AllocError;
 use std::alloc::Global;
 

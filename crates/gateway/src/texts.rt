@@ -1,20 +1,18 @@
 // The text of what was read, written or refused.
 ghost use mathlib.Core.Path.{_≡_};
-ghost use mathlib.Core.List.{[], _++_};
+ghost use mathlib.Core.List.{_++_};
 ghost use lib.Chars.{codes};
 ghost use Rattle.std.specs.Of.String.{string-bytes};
 ghost use Rattle.std.specs.Vec.{made};
 ghost use Rattle.std.specs.Written.{decimal, signed};
 ghost use Rattle.messages.specs.declared.message.Message.the-variants.{Place, Cancel, Evaluate, Define};
-ghost use Rattle.gateway.specs.Texts.{side-text, time-text, is-zero, limit-text, sign-text, leg-text, message-text, is-beyond, reread, warning-text, bit-text, refusal-text, bytes-text};
+ghost use Rattle.gateway.specs.Texts.{side-text, time-text, is-zero, limit-text, sign-text, leg-text, message-text, is-beyond, reread, warning-text};
 use messages::LegFields;
 use messages::LegSide;
 use messages::Message;
 use messages::OrderSide;
 use messages::Received;
 use messages::TimeInForce;
-use refusals::Reason;
-use refusals::Refusal;
 use std::alloc::AllocError;
 use std::alloc::Global;
 use text::numbers::push_signed;
@@ -223,34 +221,4 @@ pub(crate) fn warning_text(heap: Global, limit: i64) -> Result<String, AllocErro
     let read = signed_text(heap, limit)?;
     let again = reread_text(heap, limit)?;
     warning_line(heap, read.as_str(), again.as_str())
-}
-
-fn field_refusal_line(
-    heap: Global,
-    station: &str,
-    number: u32,
-    bit: u32,
-) -> Result<String, AllocError>
-    ensures { λ r. ⌜ made r (λ t. string-bytes t ≡ codes "refused " ++ (now (station .entry) ++ (codes " " ++ (decimal number ++ (codes " bit " ++ decimal bit))))) ⌝ }
-{
-    format!(heap, "refused {station} {number} bit {bit}")
-}
-
-fn refusal_line(heap: Global, station: &str, number: u32) -> Result<String, AllocError>
-    ensures { λ r. ⌜ made r (λ t. string-bytes t ≡ codes "refused " ++ (now (station .entry) ++ (codes " " ++ (decimal number ++ [])))) ⌝ }
-{
-    format!(heap, "refused {station} {number}")
-}
-
-// What a refusal says: its station, its number and, for a field, the bit place.
-pub(crate) fn refusal_text(heap: Global, refusal: &Refusal) -> Result<String, AllocError>
-    ensures { λ r. ⌜ made r (λ t. string-bytes t ≡ refusal-text (now (refusal .entry))) ⌝ }
-{
-    let station = refusal.station.name();
-    let number = refusal.number();
-    if number == Reason::Field.number() {
-        field_refusal_line(heap, station, number, refusal.bit)
-    } else {
-        refusal_line(heap, station, number)
-    }
 }

@@ -1,5 +1,5 @@
 use mathlib.Core.Path.{sym, ap}
-use Rattle.gateway.specs.Lines.{complaint-text}
+use Rattle.gateway.specs.Answers.{complaint-text}
 use Rattle.gateway.proofs.tally.Complaint.text.Needs as need
 
 pub returns-in-Overlong : need.returns-in-Overlong

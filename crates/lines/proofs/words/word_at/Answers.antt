@@ -6,7 +6,7 @@ use native.Mathlib.Omega.{arith}
 use lib.ListN.{length}
 use Rattle.std.proofs.shelf.Lists.{length-map, getD-map, getD-past}
 use Rattle.text.specs.Words.{lent}
-use Rattle.gateway.proofs.commands.word_at.Needs as need
+use Rattle.lines.proofs.words.word_at.Needs as need
 
 pub returns-then-i-words : need.returns-then-i-words
 returns-then-i-words c = sym (getD-map (λ w. now w) (c .args .words .now) (c .args .i) (record { ptr = (0, 0); name = 0; now = [] }) [] (c .if-i-words .taken))

@@ -13,17 +13,20 @@ ghost use Rattle.messages.specs.Writing.{write-answer, written};
 ghost use Rattle.text.specs.Words.{lent};
 ghost use Rattle.gateway.specs.Commands.{bytes-in, message-in};
 ghost use Rattle.gateway.specs.Texts.{gap-before, bytes-text};
-ghost use Rattle.gateway.specs.Lines.{newline, limit-warning, warning-of, is-warned, reading-text, reading-outcome, writing-text, room, line-bytes, complaint-of, error-text, other-reply, other-outcome, reply, outcome, is-passed-over, line-text};
-use crate::commands::count;
-use crate::commands::is;
+ghost use Rattle.lines.specs.Texts.{newline};
+ghost use Rattle.gateway.specs.Answers.{limit-warning, warning-of, is-warned, reading-text, reading-outcome, writing-text, room, line-bytes, complaint-of, error-text, other-reply, other-outcome, reply, outcome, line-text};
 use crate::commands::message_in;
-use crate::commands::word_at;
 use crate::tally::Complaint;
 use crate::tally::Outcome;
 use crate::texts::is_beyond;
 use crate::texts::message_text;
-use crate::texts::refusal_text;
 use crate::texts::warning_text;
+use lines::texts::error_line;
+use lines::texts::printed;
+use lines::texts::refusal_text;
+use lines::words::count;
+use lines::words::is;
+use lines::words::word_at;
 use messages::Message;
 use messages::Received;
 use messages::read;
@@ -179,12 +182,6 @@ fn complaint_of(words: &[&[u8]]) -> Complaint
     }
 }
 
-fn error_line(heap: Global, line: u64, reason: &str) -> Result<String, AllocError>
-    ensures { λ r. ⌜ made r (λ t. string-bytes t ≡ codes "error line " ++ (decimal line ++ (codes ": " ++ now (reason .entry)))) ⌝ }
-{
-    format!(heap, "error line {line}: {reason}")
-}
-
 // The answer to a line that is not bytes: a message to write, or an error.
 fn other_reply(heap: Global, line: u64, words: &[&[u8]]) -> Result<Reply, AllocError>
     ensures { λ r. ⌜ made r (λ x. (string-bytes (x .text) ≡ other-reply (message-in (lent (now (words .entry)))) line (lent (now (words .entry)))) × (x .outcome ≡ other-outcome (message-in (lent (now (words .entry)))))) ⌝ }
@@ -215,21 +212,6 @@ fn reply_to(heap: Global, line: u64, words: &[&[u8]]) -> Result<Reply, AllocErro
         Some(bytes) => reading(heap, bytes.as_slice()),
         None => other_reply(heap, line, words),
     }
-}
-
-// Whether a line is passed over: it has no word, or the first begins with `#`.
-pub(crate) fn is_passed_over(words: &[&[u8]]) -> bool
-    ensures { λ r. ⌜ r ≡ is-passed-over (lent (now (words .entry))) ⌝ }
-{
-    let first = word_at(words, 0);
-    first.is_empty() || first[0] == b'#'
-}
-
-// A line as it is printed: its words, and the answer below them.
-fn printed(heap: Global, words: &str, answer: &str) -> Result<String, AllocError>
-    ensures { λ r. ⌜ made r (λ t. string-bytes t ≡ codes "> " ++ (now (words .entry) ++ (newline ++ (now (answer .entry) ++ newline)))) ⌝ }
-{
-    format!(heap, "> {words}\n{answer}\n")
 }
 
 // What is printed of the words of a line, and what came of them.

@@ -10,7 +10,7 @@ use Rattle.std.specs.Options.{mapped}
 use Rattle.text.specs.Words.{lent}
 use Rattle.gateway.specs.Commands.{then, bytes-in}
 use Rattle.gateway.proofs.Spelled.{spelled-at, spelled-push, spelled-all}
-use Rattle.gateway.proofs.lines.bytes_in.Needs as need
+use Rattle.gateway.proofs.answers.bytes_in.Needs as need
 
 -- what the words from a place on spell, by what the first of them does
 abbrev by-first : List (RefT (List ℕ)) → ℕ → List ℕ → Option ℕ → Option (List ℕ)

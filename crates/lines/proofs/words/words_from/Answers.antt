@@ -6,7 +6,7 @@ use native.Mathlib.Omega.{arith}
 use lib.ListN.{length, drop}
 use Rattle.std.proofs.shelf.Lists.{drop-map, take-rest, length-map, drop-all}
 use Rattle.text.specs.Words.{lent}
-use Rattle.gateway.proofs.commands.words_from.Needs as need
+use Rattle.lines.proofs.words.words_from.Needs as need
 
 pub returns-then-i-words : need.returns-then-i-words
 returns-then-i-words c = ap lent (take-rest (c .args .words .now) (c .args .i)) ∙ sym (drop-map (λ w. now w) (c .args .i) (c .args .words .now))

@@ -8,7 +8,7 @@ use Rattle.std.specs.Of.String.{string-bytes}
 use Rattle.text.specs.Bytes.{hex-of}
 use Rattle.gateway.specs.Texts.{gap-before, bytes-text}
 use Rattle.gateway.proofs.Shown.{bytes-more}
-use Rattle.gateway.proofs.lines.bytes_text.Needs as need
+use Rattle.gateway.proofs.answers.bytes_text.Needs as need
 
 pub loop-i-again : need.loop-i-again
 loop-i-again c =

@@ -1,11 +1,11 @@
 -- What is printed of each line, and what is counted.
-use mathlib.Core.Bool.{Bool, true, false, cond, _||_}
+use mathlib.Core.Bool.{Bool, true, false, cond}
 use mathlib.Core.List.{List, [], _∷_, _++_}
 use Prim.Native.Nat.{ℕ, _+_, _-_, _^_, min}
 use lib.Chars.{codes}
 use lib.Dec.{eqb, ltb}
 use lib.IntN.{ℤ}
-use lib.ListN.{length, getD, replicate}
+use lib.ListN.{length, replicate}
 use Rattle.std.specs.declared.option.Option.{Option}
 use Rattle.std.specs.declared.option.Option.the-variants.{None, Some}
 use Rattle.std.specs.declared.result.Result.{Result}
@@ -26,11 +26,10 @@ use Rattle.gateway.specs.declared.tally.Complaint.the-variants.{Unwritten, Ove
 use Rattle.gateway.specs.declared.tally.Outcome.{Outcome}
 use Rattle.gateway.specs.declared.tally.Outcome.the-variants.{Read, Refused, Written, Wrong}
 use Rattle.gateway.specs.declared.tally.Tally.{Tally}
-use Rattle.gateway.specs.Commands.{word, bytes-in, message-in}
-use Rattle.gateway.specs.Texts.{message-text, is-beyond, warning-text, refusal-text, bytes-text}
-
-abbrev pub newline : List ℕ
-newline = codes "\n"
+use Rattle.lines.specs.Texts.{newline, refusal-text}
+use Rattle.lines.specs.Words.{word}
+use Rattle.gateway.specs.Commands.{bytes-in, message-in}
+use Rattle.gateway.specs.Texts.{message-text, is-beyond, warning-text, bytes-text}
 
 -- a warning follows a message that places an order at a limit beyond what the engine takes
 abbrev pub limit-warning : ℤ → List ℕ
@@ -98,10 +97,6 @@ other-outcome None = Wrong
 abbrev pub outcome : Option (List ℕ) → List (List ℕ) → Outcome
 outcome (Some bytes) ws = reading-outcome (read-of bytes)
 outcome None ws = other-outcome (message-in ws)
-
--- an empty line and a line whose first word begins with `#` are passed over
-abbrev pub is-passed-over : List (List ℕ) → Bool
-is-passed-over ws = eqb (length (word ws 0)) 0 || eqb (getD (word ws 0) 0 0) 35
 
 -- the words of a line are printed first
 abbrev pub line-text : ℕ → List (List ℕ) → List ℕ

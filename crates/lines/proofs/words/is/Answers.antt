@@ -1,6 +1,6 @@
 use borrow.Author.Needs.{needs}
 use Rattle.std.proofs.shelf.Equals.{matches-decides, sameBytes-decides}
-use Rattle.gateway.proofs.commands.is.Needs as need
+use Rattle.lines.proofs.words.is.Needs as need
 
 pub returns : need.returns
 returns c =
