@@ -5,6 +5,7 @@ mod books;
 mod messages_read;
 #[cfg(test)]
 mod messages_written;
+mod piles;
 #[cfg(test)]
 mod program_lines;
 #[cfg(test)]
