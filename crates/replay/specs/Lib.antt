@@ -1,0 +1,4 @@
+pub mod Commands
+pub mod Calls
+pub mod Sessions
+pub mod Texts
