@@ -3,7 +3,7 @@ use Prim.Native.Nat.{ℕ}
 use Rattle.std.specs.declared.result.Result.{Result}
 use Rattle.std.specs.declared.result.Result.the-variants.{Ok, Err}
 use Rattle.refusals.specs.declared.refusal.Refusal.{Refusal}
-use Rattle.simple.specs.declared.lot.Lot.{Lot as one-lot}
+use Rattle.simple.specs.declared.lot.Lot.{Lot}
 use Rattle.simple.specs.declared.board.QuoteBoard.{QuoteBoard}
 use Rattle.simple.specs.Lots.{Lots, lot-at}
 use Rattle.simple.specs.Take.{after}
@@ -15,7 +15,7 @@ use Rattle.depth.specs.Meaning.{standing, depth-lots, posted-count, places}
 use Rattle.depth.specs.Post.{post-answer, with-lot}
 use Rattle.depth.specs.Withdraw.{withdraw-answer, without-lot}
 use Rattle.replay.specs.declared.answer.Answer.{Answer}
-use Rattle.replay.specs.declared.answer.Answer.the-variants.{Done, Lot, Refused, Wrong}
+use Rattle.replay.specs.declared.answer.Answer.the-variants.{Done, Lot as lot, Refused, Wrong}
 use Rattle.replay.specs.declared.answer.Complaint.{Complaint}
 use Rattle.replay.specs.declared.answer.Complaint.the-variants.{Unopened, Unfit}
 use Rattle.replay.specs.declared.command.BookCall.{BookCall}
@@ -61,7 +61,7 @@ said-marks m (Ok (ToLayer c)) = marks-after m c
 said-marks m (Err e) = m
 
 -- the lot that is quoted or posted
-abbrev pub entry-lot : Entry → one-lot
+abbrev pub entry-lot : Entry → Lot
 entry-lot e = lot-at (e .price) (e .size) (e .customer)
 
 -- a board has quotes alone
@@ -77,7 +77,7 @@ board-leaves b (Withdraw n) = board-lots b
 
 -- the number of the lot that was posted, or why it was refused
 abbrev pub posted-answer : Result ℕ Refusal → Answer
-posted-answer (Ok n) = Lot n
+posted-answer (Ok n) = lot n
 posted-answer (Err r) = Refused r
 
 -- a depth book has posts and withdrawals
