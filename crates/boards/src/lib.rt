@@ -1,4 +1,7 @@
 // The quote board: a simple book with a maker's and a Priority Customer's quote on each side.
+
+#![tactic(auto)]
+
 mod board;
 mod limits;
 mod quote;

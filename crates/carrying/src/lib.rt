@@ -1,4 +1,7 @@
 // How an accepted order and an evaluation are carried out.
+
+#![tactic(auto)]
+
 ghost use Rattle.std.specs.Prelude.{◌≡◌, cond, ◌||◌, length};
 ghost use Rattle.ranked.specs.Held.{items, room};
 ghost use Rattle.strategies.specs.Strategies.{strategy_legs};

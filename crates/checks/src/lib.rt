@@ -1,4 +1,7 @@
 // The tests that are many, in a crate of their own, so that no library is proved again for them.
+
+#![tactic(auto)]
+
 #[cfg(test)]
 mod books;
 mod clients;

@@ -1,4 +1,7 @@
 // What a message says, and why bytes or a message are refused.
+
+#![tactic(auto)]
+
 mod fault;
 mod message;
 mod sides;

@@ -1,5 +1,7 @@
 //! The depth book: a simple book over lots that stand in the host's memory.
 
+#![tactic(auto)]
+
 pub mod depth;
 mod limits;
 mod side;

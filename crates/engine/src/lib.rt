@@ -1,4 +1,7 @@
 // The engine: strategies and orders over the host's memory, and the calls.
+
+#![tactic(auto)]
+
 mod calls;
 mod entry;
 mod held;

@@ -1,4 +1,7 @@
 // Reads what order gateways sent, as hexadecimal text, and prints what each message says under the edition that it names.
+
+#![tactic(auto)]
+
 mod answers;
 mod commands;
 mod tally;

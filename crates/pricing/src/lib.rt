@@ -1,4 +1,7 @@
 // Prices of strategies: net markets, admissible prices and their legs, the price of a pair, what can be legged and what is displayed.
+
+#![tactic(auto)]
+
 mod display;
 mod legging;
 mod legs;

@@ -1,5 +1,7 @@
 //! Entries kept in rank, in memory that the caller lends.
 
+#![tactic(auto)]
+
 mod list;
 mod rank;
 mod slots;

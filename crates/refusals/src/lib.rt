@@ -1,4 +1,7 @@
 // Why a call is refused: where, for what reason, under which number.
+
+#![tactic(auto)]
+
 mod reason;
 mod refusal;
 mod station;

@@ -1,4 +1,7 @@
 // Replays trading sessions that are written as text, and prints every answer.
+
+#![tactic(auto)]
+
 mod answer;
 mod board;
 mod command;

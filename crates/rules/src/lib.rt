@@ -1,4 +1,7 @@
 // What the strategy book does: orders and their rank, executions, answers, the rules of every call and the law over every list of calls.
+
+#![tactic(auto)]
+
 mod answer;
 mod execution;
 mod order;

@@ -1,4 +1,7 @@
 // Simple books: single-series markets, each side a list of lots.
+
+#![tactic(auto)]
+
 mod book;
 mod lent;
 mod limits;

@@ -1,4 +1,7 @@
 // The steps of a strategy over any simple book.
+
+#![tactic(auto)]
+
 mod choosing;
 mod orders;
 mod running;

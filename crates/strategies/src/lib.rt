@@ -1,4 +1,7 @@
 // Strategies: what one is, and which rule a row of legs breaks.
+
+#![tactic(auto)]
+
 mod leg;
 mod legs;
 mod limits;

@@ -1,3 +1,6 @@
 // The words of a line, and how they are shown.
+
+#![tactic(auto)]
+
 pub mod printable;
 pub mod words;
