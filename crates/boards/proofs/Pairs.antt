@@ -8,7 +8,7 @@ use Rattle.simple.specs.declared.lot.Lot.{Lot}
 use Rattle.boards.specs.declared.quote.Quote.{Quote}
 use Rattle.simple.specs.Lots.{precedes, insert_lot}
 use Rattle.simple.specs.Best.{customers}
-use Rattle.boards.specs.Board.{quote_lot, standing, in_rank, makers, requoted}
+use Rattle.boards.specs.Board.{quote_lot, in_rank, makers, requoted}
 
 -- of a Priority Customer's lot and a maker's exactly one precedes the other
 apart : (d : Side) (x y : Quote) → precedes d (quote_lot false y) (quote_lot true x) ≡ not (precedes d (quote_lot true x) (quote_lot false y))

@@ -10,7 +10,7 @@ use Rattle.boards.specs.declared.quote.Quotes.{Quotes}
 use Rattle.boards.specs.declared.board.QuoteBoard.{QuoteBoard}
 use Rattle.simple.specs.Limits.{highest_price, side_limit, lot_limit}
 use Rattle.boards.specs.Limits.{last_quoted}
-use Rattle.simple.specs.Lots.{Lots, precedes, Sound, Ranked, contracts, Lawful}
+use Rattle.simple.specs.Lots.{precedes, Sound, Ranked, contracts, Lawful}
 use Rattle.boards.specs.Board.{quote_lot, standing, in_rank, side_lots, quotes_at, board_lots}
 
 -- of two lots one precedes the other

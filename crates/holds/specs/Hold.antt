@@ -1,5 +1,5 @@
 -- What a hold layer leaves of the book below.
-use Rattle.std.specs.Prelude.{ℕ, Bool, false, cond, ◌&&◌, List, [], set, replicate, Ok, Err, ◌==◌, nat_le, nat_lt, slice_index_or}
+use Rattle.std.specs.Prelude.{ℕ, Bool, false, cond, ◌&&◌, List, [], replicate, Ok, Err, ◌==◌, nat_le, nat_lt, slice_index_or}
 use Rattle.refusals.specs.declared.reason.Reason.TheVariants.{NoSeries}
 use Rattle.refusals.specs.declared.station.Station.{Station}
 use Rattle.refusals.specs.Refusals.{refused_at}

@@ -32,8 +32,8 @@ impl<B: SimpleBook> HoldLayer<B> {
     pub fn new(book: B) -> HoldLayer<B>
         ensures book { result.book ≡ book }
         ensures marks { result.marks ≡ no_marks }
-        ensures lots { layer_lots lots result ≡ lots book }
-        ensures frame { layer_frame lots frame result ≡ hold_frame no_marks (lots book) (frame book) }
+        ensures lots { layer_lots B.lots result ≡ B.lots book }
+        ensures frame { layer_frame B.lots B.frame result ≡ hold_frame no_marks (B.lots book) (B.frame book) }
     {
         HoldLayer {
             book,
@@ -45,8 +45,8 @@ impl<B: SimpleBook> HoldLayer<B> {
     pub fn from_parts(book: B, marks: Marks) -> HoldLayer<B>
         ensures book { result.book ≡ book }
         ensures marks { result.marks ≡ marks }
-        ensures lots { layer_lots lots result ≡ shown marks (lots book) }
-        ensures frame { layer_frame lots frame result ≡ hold_frame marks (lots book) (frame book) }
+        ensures lots { layer_lots B.lots result ≡ shown marks (B.lots book) }
+        ensures frame { layer_frame B.lots B.frame result ≡ hold_frame marks (B.lots book) (B.frame book) }
     {
         HoldLayer { book, marks }
     }
@@ -55,9 +55,9 @@ impl<B: SimpleBook> HoldLayer<B> {
     pub fn into_parts(self) -> (B, Marks)
         ensures book { result.0 ≡ self.book }
         ensures marks { result.1 ≡ self.marks }
-        ensures lots { shown result.1 (lots result.0) ≡ layer_lots lots self }
-        ensures frame { hold_frame result.1 (lots result.0) (frame result.0) ≡ layer_frame lots frame self }
-        ensures below { lots result.0 ≡ beneath (layer_frame lots frame self) (layer_lots lots self) }
+        ensures lots { shown result.1 (B.lots result.0) ≡ layer_lots B.lots self }
+        ensures frame { hold_frame result.1 (B.lots result.0) (B.frame result.0) ≡ layer_frame B.lots B.frame self }
+        ensures below { B.lots result.0 ≡ beneath (layer_frame B.lots B.frame self) (layer_lots B.lots self) }
     {
         let HoldLayer { book, marks } = self;
         (book, marks)
@@ -69,7 +69,7 @@ impl<B: SimpleBook> HoldLayer<B> {
         ensures book { self.new.book ≡ self.old.book }
         ensures marks { self.new.marks ≡ after result (slice_set self.old.marks series true) self.old.marks }
         ensures held { on_hold self.new.marks ≡ after result (re_marked self.old.marks series true) (on_hold self.old.marks) }
-        ensures lots { layer_lots lots self.new ≡ after result (with_series (layer_lots lots self.old) series no_lots) (layer_lots lots self.old) }
+        ensures lots { layer_lots B.lots self.new ≡ after result (with_series (layer_lots B.lots self.old) series no_lots) (layer_lots B.lots self.old) }
     {
         if series > LAST_SERIES {
             return Err(Refusal::at(Station::Hold, Reason::NoSeries));
@@ -84,7 +84,7 @@ impl<B: SimpleBook> HoldLayer<B> {
         ensures book { self.new.book ≡ self.old.book }
         ensures marks { self.new.marks ≡ after result (slice_set self.old.marks series false) self.old.marks }
         ensures held { on_hold self.new.marks ≡ after result (re_marked self.old.marks series false) (on_hold self.old.marks) }
-        ensures lots { layer_lots lots self.new ≡ after result (with_series (layer_lots lots self.old) series (lots self.old.book series)) (layer_lots lots self.old) }
+        ensures lots { layer_lots B.lots self.new ≡ after result (with_series (layer_lots B.lots self.old) series (B.lots self.old.book series)) (layer_lots B.lots self.old) }
     {
         if series > LAST_SERIES {
             return Err(Refusal::at(Station::Release, Reason::NoSeries));

@@ -1,5 +1,5 @@
 -- The laws of fields.
-use Rattle.std.proofs.Common.{◌≡◌, ℕ, zero, suc, ◌+◌, ◌-◌, ◌*◌, ◌/◌, ◌%◌, ◌^◌, ◌<◌, ◌≤◌, List, get_or, sym, refl, ap, ◌∙◌, add-zero, add_assoc, add-suc, mod-lt, mul_assoc, mul_comm, add-mul, pow-suc, zero-add, arith, pow_mono, pow-add, shr-shr}
+use Rattle.std.proofs.Common.{◌≡◌, ℕ, zero, suc, ◌+◌, ◌-◌, ◌*◌, ◌/◌, ◌%◌, ◌^◌, ◌<◌, ◌≤◌, List, get_or, ap, ◌∙◌, add-zero, add_assoc, add-suc, mul_assoc, add-mul, pow-suc, arith, pow_mono, pow-add, shr-shr}
 use lib.Pow.{high, low}
 use Rattle.messages.specs.Bits.{bit, field}
 

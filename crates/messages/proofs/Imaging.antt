@@ -1,5 +1,5 @@
 -- The bits of a message as a number: the head, and the fields of the kind.
-use Rattle.std.proofs.Common.{◌≡◌, ℕ, ◌+◌, List, [], ◌∷◌, ap, ◌∙◌, arith}
+use Rattle.std.proofs.Common.{◌≡◌, ℕ, ◌+◌, [], ◌∷◌, arith}
 use Rattle.contents.specs.declared.message.Message.{Message}
 use Rattle.messages.specs.Codes.{signed_edition, kind_code}
 use Rattle.messages.specs.Layout.{head_layout, layout}

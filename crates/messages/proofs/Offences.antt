@@ -1,6 +1,6 @@
 -- The first offence among fields.
-use Rattle.std.proofs.Common.{◌≡◌, ℕ, zero, suc, ◌+◌, ◌-◌, ◌*◌, ◌^◌, ◌<◌, ◌≤◌, Bool, true, false, cond, eqb, ltb, List, [], ◌∷◌, ◌++◌, Some, None, Option, sym, refl, ap, ◌∙◌, add-one, one-add, arith, pow_pos}
-use Rattle.std.proofs.lemmas.Bool.{cond-true, cond-false, lt-ltb, le-ltb, eqb-true, eqb-false}
+use Rattle.std.proofs.Common.{◌≡◌, ℕ, zero, suc, ◌+◌, ◌-◌, ◌*◌, ◌^◌, ◌<◌, ◌≤◌, List, [], ◌∷◌, ◌++◌, Some, None, Option, sym, refl, ap, ◌∙◌, add-one, one-add, arith, pow_pos}
+use Rattle.std.proofs.lemmas.Bool.{cond-false, le-ltb}
 use Rattle.messages.specs.Bits.{field}
 use Rattle.messages.specs.Layout.{Field, up_to, unused_bits}
 use Rattle.messages.specs.Reading.{first, offence_of, first_offence}

@@ -1,9 +1,8 @@
 -- The parts of a reading: what was tested, and what came of it.
-use Rattle.std.proofs.Common.{◌≡◌, ℕ, Bool, true, false, cond, ◌||◌, eqb, List, length, Some, None, Ok, Err, Option, Result, sym, refl, ap, ◌∙◌, arith}
-use Rattle.std.proofs.lemmas.Bool.{cond-true, cond-false, eqb-true, eq-eqb}
+use Rattle.std.proofs.Common.{◌≡◌, ℕ, Bool, true, false, cond, eqb, List, length, Some, None, Ok, Err, Option, sym, refl, ap, ◌∙◌, arith}
+use Rattle.std.proofs.lemmas.Bool.{cond-true, eqb-true, eq-eqb}
 use Rattle.refusals.specs.declared.reason.Reason.TheVariants.{Length, Edition}
 use Rattle.messages.specs.declared.codes.Kind.{Kind}
-use Rattle.contents.specs.declared.fault.ReaderFault.{ReaderFault}
 use Rattle.contents.specs.declared.message.Received.{Received}
 use Rattle.messages.specs.Bits.{field}
 use Rattle.messages.specs.Codes.{kind_code, kind_coded}

@@ -1,19 +1,18 @@
 -- A message, the values of its fields, and the bits that write them.
-use Rattle.std.proofs.Common.{◌≡◌, ℕ, ◌+◌, ◌^◌, ◌<◌, ◌≤◌, Bool, true, false, cond, ◌&&◌, eqb, ltb, List, [], ◌∷◌, ◌++◌, length, get_or, replicate, sym, refl, ap, ◌∙◌, subst, arith}
-use Rattle.std.proofs.lemmas.Bool.{and_parts, cond_both}
+use Rattle.std.proofs.Common.{◌≡◌, ℕ, ◌^◌, ◌<◌, ◌≤◌, Bool, true, cond, eqb, ltb, List, [], ◌∷◌, ◌++◌, length, get_or, sym, refl, ap, ◌∙◌, arith}
+use Rattle.std.proofs.lemmas.Bool.{cond_both}
 use Rattle.messages.specs.declared.codes.Kind.{Kind}
 use Rattle.messages.specs.declared.codes.Kind.TheVariants as kind
-use Rattle.messages.specs.declared.fields.OrderFields.{OrderFields}
 use Rattle.contents.specs.declared.message.LegFields.{LegFields}
 use Rattle.contents.specs.declared.message.Message.{Message}
 use Rattle.contents.specs.declared.message.Message.TheVariants.{Place, Cancel, Evaluate, Define}
 use Rattle.messages.specs.Bits.{field}
 use Rattle.messages.specs.Codes.{order_side_coded, leg_side_code, leg_side_coded}
 use Rattle.messages.specs.Laws.{Within}
-use Rattle.messages.specs.Layout.{Field, up_to, all_ones, unused_bits, head_layout, order_layout, place_greatest, cancel_greatest, evaluate_greatest, leg_layout, define_layout, layout}
+use Rattle.messages.specs.Layout.{all_ones, unused_bits, head_layout, order_layout, place_greatest, define_layout, layout}
 use Rattle.messages.specs.Limits.{twos_complement}
 use Rattle.messages.specs.Reading.{leg_at, leg_count, said}
-use Rattle.messages.specs.Writing.{kind_of, count_of, FourLegged, leg_values, leg, values_of, limit_ok, all_within, fits}
+use Rattle.messages.specs.Writing.{kind_of, count_of, FourLegged, leg, values_of, limit_ok}
 use Rattle.messages.proofs.Coding.{order_side_bits, order_side_back, leg_side_bits, leg_side_back, mark_bits, mark_back, limit_bits_back, limit_back, limit_fit}
 use Rattle.messages.proofs.FieldLaws.{field_lt}
 use Rattle.messages.proofs.Trips.{values, Tiles, Capable, unused_tiles, unused_capable, unused_values}

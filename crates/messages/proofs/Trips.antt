@@ -1,14 +1,14 @@
 -- The round trip over any layout whose fields stand one behind the other.
-use Rattle.std.proofs.Common.{◌≡◌, ℕ, zero, suc, ◌+◌, ◌-◌, ◌*◌, ◌/◌, ◌%◌, ◌^◌, ◌<◌, ◌≤◌, Bool, true, false, cond, ◌&&◌, ltb, leb, List, [], ◌∷◌, ◌++◌, length, replicate, Some, None, sym, refl, ap, ◌∙◌, subst, add_assoc, mul-le-mul_right, mul_assoc, add-mul, add-one, arith, pow-add}
+use Rattle.std.proofs.Common.{◌≡◌, ℕ, zero, suc, ◌+◌, ◌-◌, ◌*◌, ◌/◌, ◌%◌, ◌^◌, ◌<◌, ◌≤◌, Bool, true, false, cond, ltb, leb, List, [], ◌∷◌, length, replicate, Some, None, sym, refl, ap, ◌∙◌, subst, mul-le-mul_right, mul_assoc, add-mul, add-one, arith, pow-add}
 use lib.Pow.{high, low}
 use Rattle.std.proofs.lemmas.Bool.{and_from, and_parts, le-leb, leb-true, ltb-false}
 use Rattle.messages.specs.Bits.{field, bytes_of}
-use Rattle.messages.specs.Layout.{Field, up_to, unused_bits}
+use Rattle.messages.specs.Layout.{Field, unused_bits}
 use Rattle.messages.specs.Laws.{Within}
-use Rattle.messages.specs.Reading.{first, offence_of, first_offence}
+use Rattle.messages.specs.Reading.{first, first_offence}
 use Rattle.messages.specs.Writing.{all_within, image}
 use Rattle.messages.proofs.Bytes.{field_bytes_of}
-use Rattle.messages.proofs.FieldLaws.{field_lt, field_add}
+use Rattle.messages.proofs.FieldLaws.{field_add}
 use Rattle.messages.proofs.Offences.{no_offence}
 
 -- the numbers that fields write

@@ -65,7 +65,7 @@ pub fn push_number(out: &mut String, n: u64) -> Result<(), AllocError>
     ensures written { string_bytes out.new ≡ (if is_ok result then string_bytes out.old ++ decimal n else string_bytes out.old) }
     ensures read_again { number_in (decimal n) ≡ Some n }
 {
-    let digits = n.to_string(out.allocator())?;
+    let digits = n.to_string(*out.allocator())?;
     out.push_str(digits.as_str())
 }
 
@@ -74,6 +74,6 @@ pub fn push_signed(out: &mut String, n: i64) -> Result<(), AllocError>
     ensures written { string_bytes out.new ≡ (if is_ok result then string_bytes out.old ++ signed_decimal n else string_bytes out.old) }
     ensures read_again { signed_in (signed_decimal n) ≡ Some n }
 {
-    let written = n.to_string(out.allocator())?;
+    let written = n.to_string(*out.allocator())?;
     out.push_str(written.as_str())
 }

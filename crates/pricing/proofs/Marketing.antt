@@ -1,6 +1,5 @@
 -- The markets of the legs, one leg after another.
-use Rattle.std.proofs.Common.{◌≡◌, ℕ, zero, suc, ◌+◌, ◌-◌, ◌<◌, ◌≤◌, Bool, true, false, cond, ◌&&◌, ltb, leb, List, [], ◌∷◌, ◌++◌, length, get_or, take, drop, set, ℤ, Some, None, Option, sym, refl, ap, ◌∙◌, arith}
-use Rattle.std.specs.Option.{option_map}
+use Rattle.std.proofs.Common.{◌≡◌, ℕ, ◌+◌, ◌<◌, ◌≤◌, true, ◌&&◌, leb, List, [], ◌∷◌, ◌++◌, length, get_or, take, drop, set, Some, None, Option, sym, refl, ap, ◌∙◌, arith}
 use Rattle.std.proofs.lemmas.List.{drop_more, drop_all, take_more_set, append_assoc, append-nil, length-take-le}
 use Rattle.std.proofs.lemmas.Bool.{and_parts, and_from, le-leb}
 use Rattle.simple.specs.declared.lot.Side.{Side}
@@ -13,9 +12,8 @@ use Rattle.strategies.specs.declared.leg.Leg.{Leg}
 use Rattle.strategies.specs.Legs.{blank}
 use Rattle.pricing.specs.declared.market.LegMarket.{LegMarket}
 use Rattle.pricing.specs.Legs.{is_open}
-use Rattle.pricing.specs.Prices.{admissible}
 use Rattle.pricing.specs.Sound.{leg_sound, legs_sound, Sound}
-use Rattle.pricing.specs.Reading.{with_front, leg_market, markets_of, Admissible, Closed}
+use Rattle.pricing.specs.Reading.{with_front, leg_market, markets_of, Closed}
 use Rattle.pricing.proofs.Search.{none_some}
 
 -- a best is priced as a lot may be

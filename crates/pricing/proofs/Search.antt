@@ -1,13 +1,12 @@
 -- The first of the prices that are tried, and when one is admissible.
-use Rattle.std.proofs.Common.{◌≡◌, ℕ, zero, suc, ◌+◌, ◌-◌, ◌<◌, ◌≤◌, Bool, true, false, cond, ◌&&◌, eqb, List, ℤ, ◌-ℤ◌, nat_abs, ◌≤ℤ◌, ◌<ℤ◌, Some, None, Option, sym, refl, ap, ◌∙◌, ⊎_elim, suc-add, zero-add, add-one, arith}
+use Rattle.std.proofs.Common.{◌≡◌, ℕ, zero, suc, ◌+◌, ◌-◌, ◌<◌, Bool, true, false, ◌&&◌, eqb, List, ℤ, ◌-ℤ◌, nat_abs, ◌≤ℤ◌, ◌<ℤ◌, Some, None, Option, sym, refl, ◌∙◌, ⊎_elim, suc-add, zero-add, add-one, arith}
 use lib.Signed.{le_z}
 use Rattle.std.proofs.lemmas.Int.{ints}
 use Rattle.std.proofs.lemmas.Bool.{cases_eq}
-use Rattle.std.specs.Option.{option_map, option_or}
 use Rattle.pricing.specs.declared.market.LegMarket.{LegMarket}
 use Rattle.pricing.specs.declared.market.NetPrice.{NetPrice}
 use Rattle.pricing.specs.Legs.{free, in_places, net_bid, net_offer}
-use Rattle.pricing.specs.Prices.{rest_after, by_leg, customer_rule, rest_at, exact, allowed, leg_prices}
+use Rattle.pricing.specs.Prices.{rest_after, by_leg, customer_rule, rest_at, allowed, leg_prices}
 use Rattle.pricing.specs.Pair.{lowest, highest, tries, nth, priced, first, pair_price}
 
 pub none_some : {X A : Type 0} (a : A) → None ≡ Some a → X

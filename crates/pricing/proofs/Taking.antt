@@ -1,14 +1,12 @@
 -- The bests that an order takes, one leg after another.
-use Rattle.std.proofs.Common.{◌≡◌, ℕ, zero, suc, ◌+◌, ◌-◌, ◌*◌, ◌/◌, ◌<◌, ◌≤◌, min, Bool, true, false, cond, ◌&&◌, ◌||◌, leb, List, [], ◌∷◌, ◌++◌, map, length, get_or, take, drop, set, replicate, ℤ, ◌≤ℤ◌, MatchBool, fold, sym, refl, ap, ◌∙◌, subst, le_trans, mul_comm, mul-le-mul_left, le-div_iff_mul-le, arith}
+use Rattle.std.proofs.Common.{◌≡◌, ℕ, suc, ◌+◌, ◌-◌, ◌*◌, ◌/◌, ◌<◌, ◌≤◌, min, Bool, true, false, cond, ◌||◌, leb, List, [], ◌∷◌, ◌++◌, map, length, take, drop, set, replicate, ℤ, ◌≤ℤ◌, MatchBool, fold, sym, refl, ap, ◌∙◌, le_trans, mul_comm, mul-le-mul_left, le-div_iff_mul-le, arith}
 use native.Mathlib.Nat.{mul-div-le}
-use lib.Signed.{le_z}
 use Rattle.std.specs.List.{AllByRecursion as All}
 use Rattle.std.proofs.lemmas.List.{map_more, set_at, append_assoc, length-map, length-take-le, take_all, drop_all}
 use Rattle.std.proofs.lemmas.Int.{ints}
 use Rattle.std.proofs.lemmas.List.Sums.{fold_more}
-use Rattle.std.proofs.lemmas.Bool.{and_parts, cond_both, true≢false}
+use Rattle.std.proofs.lemmas.Bool.{and_parts, true≢false}
 use Rattle.pricing.specs.declared.market.LegMarket.{LegMarket}
-use Rattle.pricing.specs.Legs.{in_places, net_bid, net_offer}
 use Rattle.pricing.specs.Sound.{leg_sound, legs_sound, Sound}
 use Rattle.pricing.specs.Legging.{price_taken, size_taken, available, most, reaches, legged_quantity, prices_taken, Fits, Greatest, Eased}
 use Rattle.pricing.specs.Display.{customer_taken, meets_customer}

@@ -1,5 +1,5 @@
 -- What holds of admissible prices and of the price of a pair, from their definitions.
-use Rattle.std.proofs.Common.{◌≡◌, ℕ, zero, suc, ◌+◌, ◌-◌, ◌*◌, ◌<◌, ◌≤◌, Bool, true, false, cond, not, ◌&&◌, ◌||◌, eqb, ltb, leb, ◌⊎◌, List, [], ◌∷◌, ℤ, pos, ◌+ℤ◌, ◌-ℤ◌, neg_ℤ, nat_abs, ◌≤ℤ◌, is_some, Some, None, Option, sym, refl, ap, ◌∙◌, inl, inr, ⊎_elim, mul-le-mul_left, mul-add, arith}
+use Rattle.std.proofs.Common.{◌≡◌, ℕ, ◌+◌, ◌-◌, ◌*◌, ◌<◌, ◌≤◌, Bool, true, false, cond, not, ◌&&◌, eqb, ltb, leb, List, [], ◌∷◌, ℤ, pos, ◌+ℤ◌, ◌-ℤ◌, neg_ℤ, nat_abs, ◌≤ℤ◌, is_some, Some, None, Option, sym, refl, ap, ◌∙◌, inl, inr, ⊎_elim, mul-le-mul_left, mul-add, arith}
 use native.Mathlib.Nat.{mul-sub}
 use lib.Signed.{le_z}
 use Rattle.std.proofs.lemmas.Int.{ints, clamps}
@@ -9,7 +9,7 @@ use Rattle.pricing.specs.declared.market.LegMarket.{LegMarket}
 use Rattle.pricing.specs.declared.market.NetPrice.{NetPrice}
 use Rattle.pricing.specs.Legs.{width, is_open, free, signed, net, offer_part, net_bid, net_offer, in_places}
 use Rattle.pricing.specs.Prices.{cents, price_at, left, rest_after, by_leg, at_customer, between, matched, improved, customer_rule, rest_at, in_net, exact, allowed, leg_prices, admissible}
-use Rattle.pricing.specs.Pair.{lowest, highest, tries, nth, priced, first, pair_price}
+use Rattle.pricing.specs.Pair.{lowest, highest, tries, nth, priced, pair_price}
 use Rattle.pricing.specs.Trades.{Each, Any, InMarket, Improving, AtCustomer, Fair, AllFair, Within, NoneWithin, Found, First, Narrower}
 use Rattle.pricing.proofs.Split.{cents_fit}
 use Rattle.pricing.proofs.Search.{none_some, first_none_all, first_some}

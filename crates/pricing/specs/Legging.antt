@@ -1,5 +1,5 @@
 -- What an order trades at with the simple book, and how much of it.
-use Rattle.std.specs.Prelude.{◌≡◌, ℕ, ◌*◌, ◌/◌, ◌≤◌, min, Bool, true, false, cond, not, List, [], ◌∷◌, map, ℤ, ◌≤ℤ◌, MatchBool, fold, int_le}
+use Rattle.std.specs.Prelude.{◌≡◌, ℕ, ◌*◌, ◌/◌, ◌≤◌, min, Bool, true, false, cond, not, List, map, ℤ, ◌≤ℤ◌, MatchBool, fold, int_le}
 use Rattle.std.specs.List.{AllByRecursion as All}
 use Rattle.pricing.specs.declared.market.LegMarket.{LegMarket}
 use Rattle.pricing.specs.declared.market.NetPrice.{NetPrice}

@@ -1,5 +1,5 @@
 -- The markets of a strategy's legs, and their nets.
-use Rattle.std.specs.Prelude.{ℕ, ◌-◌, ◌*◌, Bool, true, false, cond, ◌&&◌, List, [], ◌∷◌, ◌++◌, length, replicate, ℤ, pos, ◌+ℤ◌, neg_ℤ, nat_le, nat_lt}
+use Rattle.std.specs.Prelude.{ℕ, ◌-◌, ◌*◌, Bool, true, cond, ◌&&◌, List, [], ◌∷◌, ◌++◌, length, replicate, ℤ, pos, ◌+ℤ◌, neg_ℤ, nat_le, nat_lt}
 use Rattle.pricing.specs.declared.market.LegMarket.{LegMarket}
 use Rattle.pricing.specs.Limits.{widest_market, leg_places}
 

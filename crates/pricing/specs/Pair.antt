@@ -1,5 +1,5 @@
 -- The price at which a buy and a sell trade: the first admissible one in their range.
-use Rattle.std.specs.Prelude.{ℕ, zero, suc, Bool, true, false, cond, List, ℤ, pos, ◌+ℤ◌, ◌-ℤ◌, Some, None, Option, int_le, unsigned_abs}
+use Rattle.std.specs.Prelude.{ℕ, zero, suc, Bool, cond, List, ℤ, pos, ◌+ℤ◌, ◌-ℤ◌, None, Option, int_le, unsigned_abs}
 use Rattle.std.specs.Int.{int_min, int_max}
 use Rattle.std.specs.Option.{option_map, option_or}
 use Rattle.pricing.specs.declared.market.LegMarket.{LegMarket}

@@ -1,5 +1,5 @@
 -- The leg prices of a net price, and which net prices are admissible.
-use Rattle.std.specs.Prelude.{ℕ, ◌+◌, ◌-◌, ◌*◌, ◌/◌, min, Bool, true, false, cond, not, ◌&&◌, ◌||◌, List, [], ◌∷◌, ℤ, ◌-ℤ◌, is_some, Some, None, Option, ◌==◌, int_le, nat_lt, unsigned_abs}
+use Rattle.std.specs.Prelude.{ℕ, ◌+◌, ◌-◌, ◌*◌, ◌/◌, min, Bool, false, cond, not, ◌&&◌, ◌||◌, List, [], ◌∷◌, ℤ, ◌-ℤ◌, is_some, Some, None, Option, ◌==◌, int_le, nat_lt, unsigned_abs}
 use Rattle.pricing.specs.declared.market.LegMarket.{LegMarket}
 use Rattle.pricing.specs.Legs.{width, free, net_bid, net_offer}
 

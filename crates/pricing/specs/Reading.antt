@@ -1,5 +1,5 @@
 -- The markets of a strategy's legs, as a simple book has them. Only this file says what is read of a best.
-use Rattle.std.specs.Prelude.{◌≡◌, ℕ, true, cond, List, [], ◌∷◌, ℤ, Some, None, Option, nat_lt}
+use Rattle.std.specs.Prelude.{◌≡◌, true, cond, List, [], ◌∷◌, ℤ, Some, None, Option, nat_lt}
 use Rattle.std.specs.Option.{option_map}
 use Rattle.simple.specs.declared.lot.Side.TheVariants.{Bid, Offer}
 use Rattle.simple.specs.declared.lot.Best.{Best}

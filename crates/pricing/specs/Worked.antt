@@ -7,7 +7,7 @@ use Rattle.simple.specs.Lots.{Lots, lot_at}
 use Rattle.strategies.specs.declared.leg.Leg.{Leg}
 use Rattle.pricing.specs.declared.market.LegMarket.{LegMarket}
 use Rattle.pricing.specs.declared.market.NetPrice.{NetPrice}
-use Rattle.pricing.specs.Prices.{leg_prices, admissible}
+use Rattle.pricing.specs.Prices.{leg_prices}
 use Rattle.pricing.specs.Pair.{pair_price}
 use Rattle.pricing.specs.Reading.{leg_market, markets_of, net_market}
 

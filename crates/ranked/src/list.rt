@@ -62,8 +62,8 @@ impl<'a, E: Ranked> RankedList<'a, E> {
 
     /// The first place at which an entry has the number, if any has it.
     pub fn find(&self, number: u32) -> Option<usize>
-        ensures answer { result ≡ place_with serial number (items self.now) }
-        ensures found { MatchOption result (Absent serial number (items self.now)) (Standing serial number (items self.now)) }
+        ensures answer { result ≡ place_with E.serial number (items self.now) }
+        ensures found { MatchOption result (Absent E.serial number (items self.now)) (Standing E.serial number (items self.now)) }
     {
         slots::place_with(self.entries(), number)
     }
@@ -72,10 +72,10 @@ impl<'a, E: Ranked> RankedList<'a, E> {
     /// was room. Where there is none nothing changes.
     pub fn insert(&mut self, e: E) -> bool
         ensures answer { result ≡ nat_lt (length (items self.old)) (room self.old) }
-        ensures items { items self.new ≡ (if result then ranked_insert ahead e (items self.old) else items self.old) }
+        ensures items { items self.new ≡ (if result then ranked_insert E.ahead e (items self.old) else items self.old) }
         ensures count { length (items self.new) ≡ length (items self.old) + (if result then 1 else 0) }
         ensures room { room self.new ≡ room self.old }
-        ensures laws { LawfulInsertion ahead serial e (items self.old) result (items self.new) }
+        ensures laws { LawfulInsertion E.ahead E.serial e (items self.old) result (items self.new) }
     {
         let n = self.len();
         if n == self.slots.len() {
@@ -94,7 +94,7 @@ impl<'a, E: Ranked> RankedList<'a, E> {
         ensures items { items self.new ≡ (if is_some result then remove (items self.old) place else items self.old) }
         ensures count { length (items self.new) + (if is_some result then 1 else 0) ≡ length (items self.old) }
         ensures room { room self.new ≡ room self.old }
-        ensures laws { LawfulRemoval ahead serial (items self.old) result (items self.new) }
+        ensures laws { LawfulRemoval E.ahead E.serial (items self.old) result (items self.new) }
     {
         let n = self.len();
         if place >= n {
@@ -113,7 +113,7 @@ impl<'a, E: Ranked> RankedList<'a, E> {
         ensures items { items self.new ≡ (if is_some result then slice_set (items self.old) place e else items self.old) }
         ensures count { length (items self.new) ≡ length (items self.old) }
         ensures room { room self.new ≡ room self.old }
-        ensures laws { LawfulReplacement ahead serial e (items self.old) result (items self.new) }
+        ensures laws { LawfulReplacement E.ahead E.serial e (items self.old) result (items self.new) }
     {
         let n = self.len;
         slots::exchange(self.slots, n, place, e)

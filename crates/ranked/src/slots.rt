@@ -17,8 +17,8 @@ pub(crate) fn entry_at<E: Copy>(entries: &[E], place: usize) -> Option<E>
 
 /// The first place at which an entry has the number, if any has it.
 pub(crate) fn place_with<E: Ranked>(entries: &[E], number: u32) -> Option<usize>
-    ensures answer { result ≡ place_with serial number entries.now }
-    ensures found { MatchOption result (Absent serial number entries.now) (Standing serial number entries.now) }
+    ensures answer { result ≡ place_with E.serial number entries.now }
+    ensures found { MatchOption result (Absent E.serial number entries.now) (Standing E.serial number entries.now) }
 {
     for (i, entry) in entries.iter().enumerate() {
         if entry.number() == number {
@@ -30,7 +30,7 @@ pub(crate) fn place_with<E: Ranked>(entries: &[E], number: u32) -> Option<usize>
 
 /// Where an entry belongs among those of a list.
 pub(crate) fn place_of<E: Ranked>(entries: &[E], e: &E) -> usize
-    ensures { result ≡ place_of ahead e.now entries.now }
+    ensures { result ≡ place_of E.ahead e.now entries.now }
 {
     for (i, entry) in entries.iter().enumerate() {
         if !entry.is_ahead(e) {
@@ -43,9 +43,9 @@ pub(crate) fn place_of<E: Ranked>(entries: &[E], e: &E) -> usize
 /// Puts an entry in among the first `n`, at the place where it belongs: those from there on move up by one slot.
 pub(crate) fn put_in<E: Ranked>(slots: &mut [E], n: usize, place: usize, e: E)
     requires within { n < length slots.old }
-    requires place { place ≡ place_of ahead e (take n slots.old) }
-    ensures after { take (n + 1) slots.new ≡ ranked_insert ahead e (take n slots.old) }
-    ensures laws { LawfulInsertion ahead serial e (take n slots.old) true (take (n + 1) slots.new) }
+    requires place { place ≡ place_of E.ahead e (take n slots.old) }
+    ensures after { take (n + 1) slots.new ≡ ranked_insert E.ahead e (take n slots.old) }
+    ensures laws { LawfulInsertion E.ahead E.serial e (take n slots.old) true (take (n + 1) slots.new) }
 {
     for k in (place..n).rev() {
         slots[k + 1] = slots[k];
@@ -58,7 +58,7 @@ pub(crate) fn take_out<E: Ranked>(slots: &mut [E], n: usize, place: usize) -> E
     requires { (place < n) × (n ≤ length slots.old) }
     ensures answer { Some result ≡ slice_get (take n slots.old) place }
     ensures after { take (n - 1) slots.new ≡ remove (take n slots.old) place }
-    ensures laws { LawfulRemoval ahead serial (take n slots.old) (Some result) (take (n - 1) slots.new) }
+    ensures laws { LawfulRemoval E.ahead E.serial (take n slots.old) (Some result) (take (n - 1) slots.new) }
 {
     let e = slots[place];
     for k in place + 1..n {
@@ -72,7 +72,7 @@ pub(crate) fn exchange<E: Ranked>(slots: &mut [E], n: usize, place: usize, e: E)
     ensures answer { result ≡ slice_get (take n slots.old) place }
     ensures within { is_some result ≡ nat_lt place (length (take n slots.old)) }
     ensures after { take n slots.new ≡ (if is_some result then slice_set (take n slots.old) place e else take n slots.old) }
-    ensures laws { LawfulReplacement ahead serial e (take n slots.old) result (take n slots.new) }
+    ensures laws { LawfulReplacement E.ahead E.serial e (take n slots.old) result (take n slots.new) }
 {
     if place >= n || place >= slots.len() {
         return None;

@@ -1,5 +1,4 @@
 -- What a refused call answers.
-use Rattle.std.specs.Prelude.{ℕ}
 use Rattle.refusals.specs.declared.reason.Reason.{Reason}
 use Rattle.refusals.specs.declared.station.Station.{Station}
 use Rattle.refusals.specs.declared.refusal.Refusal.{Refusal}

@@ -4,7 +4,7 @@ use Rattle.std.specs.List.{flat_map, AllByRecursion as All}
 use Rattle.std.proofs.lemmas.List.{map_more, flat_map_more, length-map, length-take-le}
 use Rattle.std.proofs.lemmas.Bool.{cond_both, cond-false}
 use Rattle.text.specs.Printable.{printable_byte, printable_word, spaced, printable_line}
-use Rattle.text.specs.Words.{separates, ended, words_after, words_of, lent, Word}
+use Rattle.text.specs.Words.{separates, words_after, words_of, lent, Word}
 use Rattle.text.proofs.Runs.{ended_some}
 
 -- one more byte of a word

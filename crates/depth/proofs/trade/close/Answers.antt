@@ -28,6 +28,6 @@ pub returns : goal.returns
 returns c =
     let xs = items c.loop-entry.lots in
     record {
-      items = c.shorten.ensures.items ∙ moved_all xs c.loop-entry.to c.loop-entry.from _ (ltb-false _ _ (sym c.in-default.ensures.within)) c.loop-entry.invariant.0;
+      items = c.shorten.ensures.items ∙ moved_all xs c.loop-entry.to c.loop-entry.from _ (ltb-false _ _ (sym c.in_default.ensures.within)) c.loop-entry.invariant.0;
       room = c.shorten.ensures.room ∙ c.loop-entry.invariant.3;
     }

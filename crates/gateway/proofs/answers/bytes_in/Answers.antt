@@ -9,12 +9,12 @@ use Rattle.gateway.proofs.answers.bytes_in.Goals as goal
 abbrev by_first : List (Bor (List ℕ)) → ℕ → List ℕ → Option ℕ → Option (List ℕ)
 by_first ws i front o = option_map (λ more. front ++ more) (then o (λ b. then (bytes_in (lent (drop (i + 1) ws))) (λ bs. Some (b ∷ bs))))
 
-pub returns-in-default : goal.returns-in-default
-returns-in-default c =
+pub returns-in_default : goal.returns-in_default
+returns-in_default c =
     let ws = c.args.words.now in
     let i = c.loop-word.word-index in
     let front = vec_items c.loop-word.bytes in
-    sym (c.loop-word.invariant ∙ ap (option_map (λ more. front ++ more)) (spelled_at ws i c.loop-word-test.true) ∙ ap (by_first ws i front) (sym c.hex-byte.ensures.answer ∙ c.in-default.is))
+    sym (c.loop-word.invariant ∙ ap (option_map (λ more. front ++ more)) (spelled_at ws i c.loop-word-test.true) ∙ ap (by_first ws i front) (sym c.hex_byte.ensures.answer ∙ c.in_default.is))
 
 pub loop-word-preserved : goal.loop-word-preserved
 loop-word-preserved c =
@@ -24,9 +24,9 @@ loop-word-preserved c =
     let rest = bytes_in (lent (drop (i + 1) ws)) in
     c.loop-word.invariant
     ∙ ap (option_map (λ more. front ++ more)) (spelled_at ws i c.loop-word-test.true)
-    ∙ ap (by_first ws i front) (sym c.hex-byte.ensures.answer ∙ c.in-Some.is)
+    ∙ ap (by_first ws i front) (sym c.hex_byte.ensures.answer ∙ c.in-Some.is)
     ∙ spelled_push front c.in-Some.byte rest
-    ∙ ap (λ (l : List ℕ). option_map (λ more. l ++ more) rest) (sym c.in-ok-push.ensures.items)
+    ∙ ap (λ (l : List ℕ). option_map (λ more. l ++ more) rest) (sym c.in_ok-push.ensures.items)
 
 pub returns : goal.returns
 returns c = sym (c.loop-word.invariant ∙ spelled_all (vec_items c.loop-word.bytes) c.args.words.now c.loop-word.word-index c.loop-word-test.false)

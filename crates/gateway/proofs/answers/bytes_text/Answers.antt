@@ -9,8 +9,8 @@ pub loop-i-preserved : goal.loop-i-preserved
 loop-i-preserved c =
     let bs = c.args.bytes.now in
     let i = c.loop-i.i in
-    let gap = c.in-ok-push-str.ensures.bytes ∙ (λ k. c.loop-i.invariant k ++ c.gap-before.ensures k) in
-    c.in-ok-push-hex-byte.ensures.written ∙ ap (λ (t : List ℕ). t ++ hex_of (get_or bs i 0)) gap ∙ sym (bytes_more bs i c.loop-i-test.true)
+    let gap = c.in_ok-push_str.ensures.bytes ∙ (λ k. c.loop-i.invariant k ++ c.gap_before.ensures k) in
+    c.in_ok-push_hex_byte.ensures.written ∙ ap (λ (t : List ℕ). t ++ hex_of (get_or bs i 0)) gap ∙ sym (bytes_more bs i c.loop-i-test.true)
 
 pub returns : goal.returns
 returns c = c.loop-i.invariant ∙ ap bytes_text (take_all _ _ c.loop-i-test.false)

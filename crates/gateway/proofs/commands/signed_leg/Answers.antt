@@ -13,12 +13,12 @@ by_sign series ratio b = cond (eqb b 43) (leg_of Bought (number_in series) (numb
 
 pub returns-in-43 : goal.returns-in-43
 returns-in-43 c =
-    c.leg-of.ensures
+    c.leg_of.ensures
     ∙ ap (λ (r : List ℕ). leg_of Bought (number_in c.args.series.now) (number_in r)) (take_rest c.args.signed.now 1)
     ∙ sym (ap (by_sign c.args.series.now (drop 1 c.args.signed.now)) c.in-43.is)
 
 pub returns-in-45 : goal.returns-in-45
 returns-in-45 c =
-    c.leg-of-in-45.ensures
+    c.leg_of-in-45.ensures
     ∙ ap (λ (r : List ℕ). leg_of Sold (number_in c.args.series.now) (number_in r)) (take_rest c.args.signed.now 1)
     ∙ sym (ap (by_sign c.args.series.now (drop 1 c.args.signed.now)) c.in-45.is)

@@ -1,4 +1,4 @@
-use Rattle.std.proofs.Common.{◌≡◌, ◌≤◌, [], length, sym, ap, arith}
+use Rattle.std.proofs.Common.{◌≤◌, [], length, sym, arith}
 use Rattle.std.proofs.lemmas.List.{length-map, get_or-map, get_or_past}
 use Rattle.text.specs.Words.{lent}
 use Rattle.lines.proofs.words.word_at.Goals as goal

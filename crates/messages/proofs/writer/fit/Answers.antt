@@ -3,4 +3,4 @@ use Rattle.messages.specs.Writing.{fits}
 use Rattle.messages.proofs.writer.fit.Goals as goal
 
 pub returns-in-Define : goal.returns-in-Define
-returns-in-Define c = c.definition-fits.ensures ∙ ap fits (sym c.in-Define.is)
+returns-in-Define c = c.definition_fits.ensures ∙ ap fits (sym c.in-Define.is)

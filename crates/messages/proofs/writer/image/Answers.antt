@@ -1,4 +1,4 @@
-use Rattle.std.proofs.Common.{◌≡◌, ℕ, true, ℤ, sym, ap, ◌∙◌, subst, w64, to_z, of_z, rules}
+use Rattle.std.proofs.Common.{◌≡◌, ℕ, ℤ, sym, ap, ◌∙◌, subst, w64, to_z, of_z, rules}
 use Rattle.messages.specs.declared.fields.OrderFields.{OrderFields}
 use Rattle.contents.specs.declared.message.Message.TheVariants.{Place, Cancel, Evaluate, Define}
 use Rattle.messages.specs.Layout.{order_layout, place_greatest}
@@ -9,35 +9,35 @@ use Rattle.messages.proofs.writer.image.Goals as goal
 abbrev order_bits : OrderFields → ℕ
 order_bits f = image (order_layout place_greatest) (order_values f)
 
-pub define-image-requires : goal.define-image-requires
-define-image-requires c = sym (ap fits c.in-Define.is) ∙ c.requires
+pub define_image-requires : goal.define_image-requires
+define_image-requires c = sym (ap fits c.in-Define.is) ∙ c.requires
 
 pub returns-in-Place : goal.returns-in-Place
 returns-in-Place c =
     let z : to_z w64 (of_z w64 c.in-Place.limit) ≡ c.in-Place.limit = search rules in
-    let fields = c.placing.ensures ∙ ap (λ (l : ℤ). order_fields_of (Place c.in-Place.strategy c.in-Place.side c.in-Place.market c.in-Place.time-in-force l c.in-Place.quantity)) z in
+    let fields = c.placing.ensures ∙ ap (λ (l : ℤ). order_fields_of (Place c.in-Place.strategy c.in-Place.side c.in-Place.market c.in-Place.time_in_force l c.in-Place.quantity)) z in
     record {
-      image = whole (Place c.in-Place.strategy c.in-Place.side c.in-Place.market c.in-Place.time-in-force c.in-Place.limit c.in-Place.quantity) c.head-image.result c.order-image.result c.head-image.ensures.image (c.order-image.ensures.image ∙ ap order_bits fields) ∙ ap image_of (sym c.in-Place.is);
+      image = whole (Place c.in-Place.strategy c.in-Place.side c.in-Place.market c.in-Place.time_in_force c.in-Place.limit c.in-Place.quantity) c.head_image.result c.order_image.result c.head_image.ensures.image (c.order_image.ensures.image ∙ ap order_bits fields) ∙ ap image_of (sym c.in-Place.is);
       legs = subst FourLegged (sym c.in-Place.is) tt;
     }
 
 pub returns-in-Cancel : goal.returns-in-Cancel
 returns-in-Cancel c =
     record {
-      image = whole (Cancel c.in-Cancel.number) c.head-image-in-Cancel.result c.order-image-in-Cancel.result c.head-image-in-Cancel.ensures.image (c.order-image-in-Cancel.ensures.image ∙ ap order_bits c.cancelling.ensures) ∙ ap image_of (sym c.in-Cancel.is);
+      image = whole (Cancel c.in-Cancel.number) c.head_image-in-Cancel.result c.order_image-in-Cancel.result c.head_image-in-Cancel.ensures.image (c.order_image-in-Cancel.ensures.image ∙ ap order_bits c.cancelling.ensures) ∙ ap image_of (sym c.in-Cancel.is);
       legs = subst FourLegged (sym c.in-Cancel.is) tt;
     }
 
 pub returns-in-Evaluate : goal.returns-in-Evaluate
 returns-in-Evaluate c =
     record {
-      image = whole (Evaluate c.in-Evaluate.strategy) c.head-image-in-Evaluate.result c.order-image-in-Evaluate.result c.head-image-in-Evaluate.ensures.image (c.order-image-in-Evaluate.ensures.image ∙ ap order_bits c.evaluating.ensures) ∙ ap image_of (sym c.in-Evaluate.is);
+      image = whole (Evaluate c.in-Evaluate.strategy) c.head_image-in-Evaluate.result c.order_image-in-Evaluate.result c.head_image-in-Evaluate.ensures.image (c.order_image-in-Evaluate.ensures.image ∙ ap order_bits c.evaluating.ensures) ∙ ap image_of (sym c.in-Evaluate.is);
       legs = subst FourLegged (sym c.in-Evaluate.is) tt;
     }
 
 pub returns-in-Define : goal.returns-in-Define
 returns-in-Define c =
     record {
-      image = whole (Define c.in-Define.count c.in-Define.legs) c.head-image-in-Define.result c.define-image.result c.head-image-in-Define.ensures.image c.define-image.ensures.image ∙ ap image_of (sym c.in-Define.is);
-      legs = subst FourLegged (sym c.in-Define.is) c.define-image.ensures.legs;
+      image = whole (Define c.in-Define.count c.in-Define.legs) c.head_image-in-Define.result c.define_image.result c.head_image-in-Define.ensures.image c.define_image.ensures.image ∙ ap image_of (sym c.in-Define.is);
+      legs = subst FourLegged (sym c.in-Define.is) c.define_image.ensures.legs;
     }

@@ -1,4 +1,4 @@
-use Rattle.std.proofs.Common.{◌≡◌, ℕ, ◌-◌, ◌*◌, ◌/◌, ◌%◌, ◌^◌, ◌<◌, ◌≢◌, length, sym, ap, ◌∙◌, arith, get_or-set_other, get_or-set_same, ext_get_or, rules, below_more}
+use Rattle.std.proofs.Common.{◌≡◌, ℕ, ◌-◌, ◌*◌, ◌/◌, ◌%◌, ◌^◌, ◌<◌, ◌≢◌, length, sym, ap, ◌∙◌, arith, get_or-set_other, get_or-set_same, ext_get_or, below_more}
 use Rattle.std.proofs.lemmas.Nat.{and_mask}
 use Rattle.messages.specs.Bits.{bytes_of}
 use Rattle.messages.proofs.Bytes.{length_bytes_of, at_bytes_of}

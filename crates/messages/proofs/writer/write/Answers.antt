@@ -1,7 +1,6 @@
-use Rattle.std.proofs.Common.{◌≡◌, true, ◌&&◌, eqb, length, sym, ap, ◌∙◌, rules}
+use Rattle.std.proofs.Common.{◌≡◌, true, eqb, length, sym, ap, ◌∙◌, rules}
 use Rattle.std.proofs.lemmas.Bool.{and_parts, cond-true}
 use Rattle.messages.specs.Bits.{bytes_of}
-use Rattle.messages.specs.Laws.{ReadBack}
 use Rattle.messages.specs.Reading.{read_of}
 use Rattle.messages.specs.Writing.{fits, writable}
 use Rattle.messages.proofs.Round.{back}

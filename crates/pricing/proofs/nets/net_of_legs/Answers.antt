@@ -1,4 +1,4 @@
-use Rattle.std.proofs.Common.{◌≡◌, arith}
+use Rattle.std.proofs.Common.{arith}
 use Rattle.std.proofs.lemmas.Int.{ints}
 use Rattle.std.proofs.lemmas.List.{drop_all}
 use Rattle.pricing.specs.Legs.{net_bid, net_offer}
@@ -6,11 +6,11 @@ use Rattle.pricing.proofs.Soundness.{few, sound_at}
 use Rattle.pricing.proofs.Split.{bid_more, offer_more}
 use Rattle.pricing.proofs.nets.net_of_legs.Goals as goal
 
-pub part-of-bid-net-bid-requires : goal.part-of-bid-net-bid-requires
-part-of-bid-net-bid-requires c = sound_at c.args.legs.now c.loop-leg.leg-index _ c.requires c.loop-leg-test.true
+pub part_of_bid-net_bid-requires : goal.part_of_bid-net_bid-requires
+part_of_bid-net_bid-requires c = sound_at c.args.legs.now c.loop-leg.leg-index _ c.requires c.loop-leg-test.true
 
-pub part-of-offer-net-offer-requires : goal.part-of-offer-net-offer-requires
-part-of-offer-net-offer-requires c = sound_at c.args.legs.now c.loop-leg.leg-index _ c.requires c.loop-leg-test.true
+pub part_of_offer-net_offer-requires : goal.part_of_offer-net_offer-requires
+part_of_offer-net_offer-requires c = sound_at c.args.legs.now c.loop-leg.leg-index _ c.requires c.loop-leg-test.true
 
 pub loop-leg-preserved : goal.loop-leg-preserved
 loop-leg-preserved c =
@@ -30,6 +30,6 @@ returns c =
     record {
       bid = omega (arith, ints, bid_left);
       offer = omega (arith, ints, offer_left);
-      bid-reach = (omega (arith, ints), omega (arith, ints));
-      offer-reach = (omega (arith, ints), omega (arith, ints));
+      bid_reach = (omega (arith, ints), omega (arith, ints));
+      offer_reach = (omega (arith, ints), omega (arith, ints));
     }

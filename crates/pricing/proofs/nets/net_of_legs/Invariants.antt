@@ -4,9 +4,9 @@ use Rattle.pricing.proofs.nets.net_of_legs.Given as goal
 
 abbrev pub invariant-loop-leg : goal.invariant-loop-leg
 invariant-loop-leg l =
-    (l.net-bid +ℤ net_bid (drop l.leg-index l.legs) ≡ net_bid l.legs)
-    × (l.net-offer +ℤ net_offer (drop l.leg-index l.legs) ≡ net_offer l.legs)
-    × (l.net-bid ≤ℤ pos (8000000 * l.leg-index))
-    × (neg_ℤ (pos (8000000 * l.leg-index)) ≤ℤ l.net-bid)
-    × (l.net-offer ≤ℤ pos (8000000 * l.leg-index))
-    × (neg_ℤ (pos (8000000 * l.leg-index)) ≤ℤ l.net-offer)
+    (l.net_bid +ℤ net_bid (drop l.leg-index l.legs) ≡ net_bid l.legs)
+    × (l.net_offer +ℤ net_offer (drop l.leg-index l.legs) ≡ net_offer l.legs)
+    × (l.net_bid ≤ℤ pos (8000000 * l.leg-index))
+    × (neg_ℤ (pos (8000000 * l.leg-index)) ≤ℤ l.net_bid)
+    × (l.net_offer ≤ℤ pos (8000000 * l.leg-index))
+    × (neg_ℤ (pos (8000000 * l.leg-index)) ≤ℤ l.net_offer)

@@ -10,10 +10,10 @@ pub returns : goal.returns
 returns g c =
     let b = g.B.SimpleBook.lots c.args.book.now in
     let legs = strategy_legs c.args.strategy.now in
-    let e : option_map legs_of c.read-legs.result ≡ markets_of b legs = c.read-legs.ensures.answer ∙ ap (markets_of b) c.legs.ensures.value in
+    let e : option_map legs_of c.read_legs.result ≡ markets_of b legs = c.read_legs.ensures.answer ∙ ap (markets_of b) c.legs.ensures.value in
     record {
       answer = e;
-      closed = closed b legs (option_map legs_of c.read-legs.result) e;
-      lots = c.read-legs.ensures.lots;
-      frame = c.read-legs.ensures.frame;
+      closed = closed b legs (option_map legs_of c.read_legs.result) e;
+      lots = c.read_legs.ensures.lots;
+      frame = c.read_legs.ensures.frame;
     }

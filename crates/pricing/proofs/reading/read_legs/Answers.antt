@@ -4,25 +4,25 @@ use Rattle.std.proofs.lemmas.List.{length-set}
 use Rattle.strategies.specs.Legs.{blank}
 use Rattle.pricing.specs.Markets.{legs_of}
 use Rattle.pricing.specs.Reading.{leg_market, markets_of}
-use Rattle.pricing.proofs.Marketing.{market_closed, market_more, sound_more, markets_all, sound_all}
+use Rattle.pricing.proofs.Marketing.{market_closed, market_more, sound_more, markets_all}
 use Rattle.pricing.proofs.reading.read_legs.Goals as goal
 
 pub bounds-four-i : goal.bounds-four-i
 bounds-four-i g c = let few = c.requires.0.most in omega (arith, c.loop-i.invariant.4)
 
-pub leg-market-requires : goal.leg-market-requires
-leg-market-requires g c = c.requires.1.ratios c.loop-i.i _ c.loop-i-test.true
+pub leg_market-requires : goal.leg_market-requires
+leg_market-requires g c = c.requires.1.ratios c.loop-i.i _ c.loop-i-test.true
 
-pub returns-in-err-four : goal.returns-in-err-four
-returns-in-err-four g c =
+pub returns-in_err-four : goal.returns-in_err-four
+returns-in_err-four g c =
     let b = g.B.SimpleBook.lots c.args.book.now in
     let legs = c.args.legs.now in
     let i = c.loop-i.i in
-    let e : None ≡ leg_market b (get_or legs i blank) = c.in-err-four.ensures.answer ∙ ap (λ b. leg_market b (get_or legs i blank)) c.loop-i.invariant.0 in
+    let e : None ≡ leg_market b (get_or legs i blank) = c.in_err-four.ensures.answer ∙ ap (λ b. leg_market b (get_or legs i blank)) c.loop-i.invariant.0 in
     record {
-      answer = ap (option_map legs_of) c.from-residual.ensures ∙ market_closed b legs i c.loop-i-test.true c.loop-i.four c.loop-i.invariant.2 e;
-      lots = c.leg-market.ensures.lots ∙ c.loop-i.invariant.0;
-      frame = c.leg-market.ensures.frame ∙ c.loop-i.invariant.1;
+      answer = ap (option_map legs_of) c.from_residual.ensures ∙ market_closed b legs i c.loop-i-test.true c.loop-i.four c.loop-i.invariant.2 e;
+      lots = c.leg_market.ensures.lots ∙ c.loop-i.invariant.0;
+      frame = c.leg_market.ensures.frame ∙ c.loop-i.invariant.1;
     }
 
 pub loop-i-preserved : goal.loop-i-preserved
@@ -32,13 +32,13 @@ loop-i-preserved g c =
     let i = c.loop-i.i in
     let lt : i < length legs = c.loop-i-test.true in
     let few : length legs ≤ 4 = c.requires.0.most in
-    let m = c.in-ok-four.field-0 in
+    let m = c.in_ok-four.field-0 in
     let room : i < length c.loop-i.four = omega (arith, c.loop-i.invariant.4) in
-    let e : Some m ≡ leg_market b (get_or legs i blank) = c.in-ok-four.ensures.answer ∙ ap (λ b. leg_market b (get_or legs i blank)) c.loop-i.invariant.0 in (
-      c.leg-market.ensures.lots ∙ c.loop-i.invariant.0,
-      c.leg-market.ensures.frame ∙ c.loop-i.invariant.1,
+    let e : Some m ≡ leg_market b (get_or legs i blank) = c.in_ok-four.ensures.answer ∙ ap (λ b. leg_market b (get_or legs i blank)) c.loop-i.invariant.0 in (
+      c.leg_market.ensures.lots ∙ c.loop-i.invariant.0,
+      c.leg_market.ensures.frame ∙ c.loop-i.invariant.1,
       market_more b legs i lt c.loop-i.four c.loop-i.invariant.2 m e room,
-      sound_more i c.loop-i.four m room c.loop-i.invariant.3 c.in-ok-four.ensures.sound,
+      sound_more i c.loop-i.four m room c.loop-i.invariant.3 c.in_ok-four.ensures.sound,
       length-set c.loop-i.four i m ∙ c.loop-i.invariant.4,
     )
 

@@ -2,13 +2,13 @@ use Rattle.ranked.specs.Held.{items, room}
 use Rattle.depth.proofs.Admits.{admitted, kept_posted, posted_next, posted_lots}
 use Rattle.depth.proofs.depth.DepthBook.put.Goals as goal
 
-pub invariant-of-self : goal.invariant-of-self
-invariant-of-self c =
-    let was = c.args.self.now in (
-      kept_posted (room was.lots) (items was.lots) was.posted c.args.series c.args.side c.args.lot c.args.number c.requires
-          c.insert.result c.insert.ensures.answer (items c.insert.new.self) c.insert.ensures.items c.insert.ensures.laws was.sound,
-      tt,
-    )
+pub invariant_of-self : goal.invariant_of-self
+invariant_of-self c =
+    let was = c.args.self.now in
+    record {
+      sound = kept_posted (room was.lots) (items was.lots) was.posted c.args.series c.args.side c.args.lot c.args.number c.requires
+          c.insert.result c.insert.ensures.answer (items c.insert.new.self) c.insert.ensures.items c.insert.ensures.laws was.sound;
+    }
 
 pub returns : goal.returns
 returns c =

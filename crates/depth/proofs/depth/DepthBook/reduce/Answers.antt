@@ -12,8 +12,8 @@ use Rattle.depth.proofs.depth.DepthBook.reduce.Goals as goal
 pub take-requires : goal.take-requires
 take-requires c = sorted_now (items c.args.self.now.lots) _ c.args.self.now.posted c.args.self.now.sound refl
 
-pub invariant-of-self : goal.invariant-of-self
-invariant-of-self c = (kept_taken c.args.series c.args.side c.args.quantity _ _ c.args.self.now.posted c.take.ensures.items c.args.self.now.sound, tt)
+pub invariant_of-self : goal.invariant_of-self
+invariant_of-self c = record { sound = kept_taken c.args.series c.args.side c.args.quantity _ _ c.args.self.now.posted c.take.ensures.items c.args.self.now.sound }
 
 pub returns : goal.returns
 returns c =

@@ -1,4 +1,4 @@
-use Rattle.std.proofs.Common.{◌≡◌, ℕ, ltb, List, [], ◌∷◌, ◌++◌, sym, refl, ap, ◌∙◌, arith}
+use Rattle.std.proofs.Common.{◌≡◌, ℕ, ltb, List, [], ◌∷◌, ◌++◌, refl, ap, ◌∙◌, arith}
 use Rattle.contents.specs.declared.message.LegFields.{LegFields}
 use Rattle.contents.specs.declared.message.Message.TheVariants.{Define}
 use Rattle.messages.specs.Layout.{Field, up_to, leg_layout, unused_bits}
@@ -36,7 +36,7 @@ returns c =
     record {
       value = λ i. Define (count i) (l1 i ∷ (l2 i ∷ (l3 i ∷ (l4 i ∷ []))));
       noted =
-          c.unused-bits.ensures.noted
+          c.unused_bits.ensures.noted
           ∙ ap (λ (p : ℕ). first c.leg-fourth.new.self.offence (first_offence c.leg-fourth.new.self.bytes.now (unused_bits p 40))) a4
           ∙ ap (λ (b : List ℕ). first c.leg-fourth.new.self.offence (first_offence b (unused_bits 72 40))) s4
           ∙ all_noted bs (leg_layout (ltb 3 n) 57) (unused_bits 72 40) c.leg-third.new.self.offence c.leg-fourth.new.self.offence s3 (legs 3 57 _ a3) c.leg-fourth.ensures.noted

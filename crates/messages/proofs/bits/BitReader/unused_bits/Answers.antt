@@ -1,6 +1,6 @@
-use Rattle.std.proofs.Common.{◌≡◌, ℕ, ◌+◌, ◌-◌, List, Option, sym, refl, ap, ◌∙◌, arith}
+use Rattle.std.proofs.Common.{ℕ, ◌+◌, ◌-◌, List, Option, sym, ap, ◌∙◌, arith}
 use Rattle.messages.specs.Layout.{up_to, unused_bits}
-use Rattle.messages.specs.Reading.{first, offence_of, first_offence}
+use Rattle.messages.specs.Reading.{first, first_offence}
 use Rattle.messages.proofs.Offences.{first_none, noted, unused_none, unused_more, unused_all}
 use Rattle.messages.proofs.bits.BitReader.unused_bits.Goals as goal
 

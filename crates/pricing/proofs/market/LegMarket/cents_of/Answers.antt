@@ -1,6 +1,5 @@
 use Rattle.std.proofs.Common.{◌≡◌, rules}
 use Rattle.pricing.specs.Prices.{cents}
-use Rattle.pricing.proofs.Soundness.{leg_told}
 use Rattle.pricing.proofs.Split.{cents_fit}
 use Rattle.pricing.proofs.market.LegMarket.cents_of.Goals as goal
 

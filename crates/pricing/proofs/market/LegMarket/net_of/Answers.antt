@@ -4,8 +4,8 @@ use Rattle.pricing.proofs.Soundness.{leg_told}
 use Rattle.pricing.proofs.Split.{value_bound}
 use Rattle.pricing.proofs.market.LegMarket.net_of.Goals as goal
 
-pub overflow-mul-value : goal.overflow-mul-value
-overflow-mul-value c = record { fits = omega (arith, value_bound c.args.self.now.ratio c.args.price (leg_told c.args.self.now c.requires.0).most c.requires.1) }
+pub overflow_mul-value : goal.overflow_mul-value
+overflow_mul-value c = record { fits = omega (arith, value_bound c.args.self.now.ratio c.args.price (leg_told c.args.self.now c.requires.0).most c.requires.1) }
 
 pub returns-then-self : goal.returns-then-self
 returns-then-self c =

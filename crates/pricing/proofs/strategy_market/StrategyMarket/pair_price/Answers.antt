@@ -11,13 +11,13 @@ use Rattle.pricing.proofs.strategy_market.StrategyMarket.pair_price.Goals as goa
 pub returns : goal.returns
 returns c =
     let ms : List LegMarket = legs_of c.args.self.now in
-    let buy = c.args.buy-limit in
-    let sell = c.args.sell-limit in
-    let older = c.args.buy-is-older in
+    let buy = c.args.buy_limit in
+    let sell = c.args.sell_limit in
+    let older = c.args.buy_is_older in
     let e : c.search.result ≡ pair_price ms buy sell older =
     c.search.ensures
-    ∙ ap (λ (z : ℤ). pair_price ms z (to_z w64 (of_z w64 sell)) older) (to_z-of_z w64 buy c.ranges.buy-limit)
-    ∙ ap (λ (z : ℤ). pair_price ms buy z older) (to_z-of_z w64 sell c.ranges.sell-limit) in
+    ∙ ap (λ (z : ℤ). pair_price ms z (to_z w64 (of_z w64 sell)) older) (to_z-of_z w64 buy c.ranges.buy_limit)
+    ∙ ap (λ (z : ℤ). pair_price ms buy z older) (to_z-of_z w64 sell c.ranges.sell_limit) in
     record {
       answer = e;
       found = subst (λ (r : Option NetPrice). Found ms buy sell r) (sym e) (found ms buy sell older);

@@ -5,10 +5,10 @@ use Rattle.strategies.specs.Strategies.{legs_or}
 use Rattle.strategies.proofs.Tests.{lawful_only}
 use Rattle.strategies.proofs.strategy.Strategy.from_row.Goals as goal
 
-pub invariant-of-result : goal.invariant-of-result
-invariant-of-result c =
+pub invariant_of-result : goal.invariant_of-result
+invariant_of-result c =
     let law = c.in-None.ensures.accepted.0 refl in
-    (law.most, (lawful_only (row_legs c.args.row.now) law.legs, tt))
+    record { few = law.most; lawful = lawful_only (row_legs c.args.row.now) law.legs }
 
 pub returns-in-None : goal.returns-in-None
 returns-in-None c =
