@@ -16,12 +16,13 @@ pub(crate) struct Input {
 }
 
 impl Input {
-    pub(crate) fn new(rt: &HostRuntime) -> Input {
-        Input {
-            lines: BufReader::new(rt.stdin()).split(rt.alloc(), b'\n'),
+    pub(crate) fn new(rt: &HostRuntime) -> anyhow::Result<Input> {
+        let lines = BufReader::new(rt.alloc(), rt.stdin())?.split(rt.alloc(), b'\n');
+        Ok(Input {
+            lines,
             number: 0,
             has_errors: false,
-        }
+        })
     }
 
     // What the next line says that is not passed over.

@@ -65,7 +65,7 @@ fn depth_session(rt: &HostRuntime, input: &mut Input) -> anyhow::Result<Option<K
 }
 
 fn main(rt: HostRuntime) -> anyhow::Result<()> {
-    let mut input = Input::new(&rt);
+    let mut input = Input::new(&rt)?;
     let mut next = unopened(&rt, &mut input)?;
     for _ in 0..u64::MAX {
         let Some(kind) = next else {
