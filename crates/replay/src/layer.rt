@@ -21,10 +21,10 @@ pub(crate) fn done_answer(res: Result<(), Refusal>) -> Answer
 
 // Makes a call of a layer.
 pub(crate) fn call_layer<B: SimpleBook>(layer: &mut HoldLayer<B>, call: LayerCall) -> Answer
-    ensures answer { result ≡ layer_answer (layer_lots lots layer.old) call }
-    ensures lots { lots layer.new.book ≡ layer_leaves layer.old.marks (lots layer.old.book) call }
+    ensures answer { result ≡ layer_answer (layer_lots B.lots layer.old) call }
+    ensures lots { B.lots layer.new.book ≡ layer_leaves layer.old.marks (B.lots layer.old.book) call }
     ensures marks { layer.new.marks ≡ marks_after layer.old.marks call }
-    ensures frame { frame layer.new.book ≡ frame layer.old.book }
+    ensures frame { B.frame layer.new.book ≡ B.frame layer.old.book }
 {
     match call {
         LayerCall::Best { series, side } => Answer::Best(layer.best(series, side)),

@@ -37,7 +37,7 @@ returns-in-Take g c =
     let r = c.take.result in
     let answer = c.take.ensures.answer in
     record {
-      answer = c.done-answer.ensures ∙ ap done_answer answer ∙ sym (ap (layer_answer (layer_lots lots h)) call);
+      answer = c.done_answer.ensures ∙ ap done_answer answer ∙ sym (ap (layer_answer (layer_lots lots h)) call);
       lots =
           told lots frame h h' same (after r (taken (layer_lots lots h) s d q) (layer_lots lots h)) c.take.ensures.lots
           ∙ left_below m b s d q (frame h.book) r answer
@@ -55,7 +55,7 @@ returns-in-Hold g c =
     let call = c.in-Hold.is in
     let answer = c.hold.ensures.answer in
     record {
-      answer = c.done-answer-in-Hold.ensures ∙ ap done_answer answer ∙ sym (ap (layer_answer (layer_lots lots h)) call);
+      answer = c.done_answer-in-Hold.ensures ∙ ap done_answer answer ∙ sym (ap (layer_answer (layer_lots lots h)) call);
       lots = ap lots c.hold.ensures.book ∙ sym (ap (layer_leaves m (lots h.book)) call);
       marks = c.hold.ensures.marks ∙ ap (λ (x : Done). after x (set m c.in-Hold.series true) m) answer ∙ sym (ap (marks_after m) call);
       frame = ap g.B.SimpleBook.frame c.hold.ensures.book;
@@ -69,7 +69,7 @@ returns-in-Release g c =
     let call = c.in-Release.is in
     let answer = c.release.ensures.answer in
     record {
-      answer = c.done-answer-in-Release.ensures ∙ ap done_answer answer ∙ sym (ap (layer_answer (layer_lots lots h)) call);
+      answer = c.done_answer-in-Release.ensures ∙ ap done_answer answer ∙ sym (ap (layer_answer (layer_lots lots h)) call);
       lots = ap lots c.release.ensures.book ∙ sym (ap (layer_leaves m (lots h.book)) call);
       marks = c.release.ensures.marks ∙ ap (λ (x : Done). after x (set m c.in-Release.series false) m) answer ∙ sym (ap (marks_after m) call);
       frame = ap g.B.SimpleBook.frame c.release.ensures.book;

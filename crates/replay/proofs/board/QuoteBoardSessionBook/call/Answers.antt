@@ -11,6 +11,6 @@ returns-in-Quote c =
     let e = c.in-Quote.entry in
     let answer = c.quote.ensures.answer in
     record {
-      answer = c.done-answer.ensures ∙ ap done_answer answer ∙ sym (ap (board_answers b) c.in-Quote.is);
+      answer = c.done_answer.ensures ∙ ap done_answer answer ∙ sym (ap (board_answers b) c.in-Quote.is);
       lots = c.quote.ensures.lots ∙ ap (λ (r : Done). after r (quoted (board_lots b) e.series e.side (entry_lot e)) (board_lots b)) answer ∙ sym (ap (board_leaves b) c.in-Quote.is);
     }

@@ -13,7 +13,7 @@ returns-in-Post c =
     let e = c.in-Post.entry in
     let answer = c.post.ensures.answer in
     record {
-      answer = c.posted-answer.ensures ∙ ap posted_answer answer ∙ sym (ap (depth_answers b) c.in-Post.is);
+      answer = c.posted_answer.ensures ∙ ap posted_answer answer ∙ sym (ap (depth_answers b) c.in-Post.is);
       lots = c.post.ensures.lots ∙ ap (λ (r : Result ℕ Refusal). after r (with_lot (depth_lots b) e.series e.side (entry_lot e)) (depth_lots b)) answer ∙ sym (ap (depth_leaves b) c.in-Post.is);
     }
 
@@ -21,6 +21,6 @@ pub returns-in-Withdraw : goal.returns-in-Withdraw
 returns-in-Withdraw c =
     let b = c.args.self.now in
     record {
-      answer = c.done-answer.ensures ∙ ap done_answer c.withdraw.ensures.answer ∙ sym (ap (depth_answers b) c.in-Withdraw.is);
+      answer = c.done_answer.ensures ∙ ap done_answer c.withdraw.ensures.answer ∙ sym (ap (depth_answers b) c.in-Withdraw.is);
       lots = c.withdraw.ensures.lots ∙ sym (ap (depth_leaves b) c.in-Withdraw.is);
     }
