@@ -1,7 +1,7 @@
 -- A lot that is admitted, and what is kept once it stands.
 use Rattle.std.proofs.Common.{◌≡◌, ℕ, ◌+◌, ◌<◌, ◌≤◌, Bool, true, false, cond, eqb, ltb, List, length, Ok, Err, Result, sym, refl, ap, ◌∙◌, subst, arith}
 use mathlib.Core.Logic.{∥∥₁_map}
-use Rattle.std.specs.List.{AllByRecursion as All}
+use Rattle.std.specs.List.{AllByRecursion}
 use Rattle.std.proofs.lemmas.Bool.{or_parts, not-false, eqb-true, eqb-false, ltb-false, leb-false, lt-ltb, cond-true}
 use Rattle.std.proofs.ByRecursion.{All-weaker}
 use Rattle.refusals.specs.declared.refusal.Refusal.{Refusal}
@@ -67,7 +67,7 @@ module _ (places : ℕ) (xs : List PostedLot) (m s : ℕ) (d : Side) (l : Lot) (
   ok : Admitted places xs m s d l k
   ok = admitted places xs m s d l k granted
 
-  lower : Sound xs m → All (λ x. x.number < k) xs
+  lower : Sound xs m → AllByRecursion (λ x. x.number < k) xs
   lower z = let is = ok.number in All-weaker (Fit m) (λ x. x.number < k) (λ x f. omega (arith, f.numbered)) xs z.fit
 
   fresh : Sound xs m → Absent lot_number k xs
@@ -92,7 +92,7 @@ module _ (places : ℕ) (xs : List PostedLot) (m s : ℕ) (d : Side) (l : Lot) (
         record {
           ranked = laws.sorted (fresh z) z.ranked;
           numbers = laws.distinct (fresh z) z.numbers;
-          fit = subst (All (Fit k)) (sym posted_items) (all_inserted (Fit k) (posted_lot s d l k) xs
+          fit = subst (AllByRecursion (Fit k)) (sym posted_items) (all_inserted (Fit k) (posted_lot s d l k) xs
               (record { listed = ok.listed; lot = ok.lot; numbered = omega arith })
               (All-weaker (Fit m) (Fit k) (λ x f. record { listed = f.listed; lot = f.lot; numbered = let is = ok.number in omega (arith, f.numbered) }) xs z.fit));
           within = λ t g.

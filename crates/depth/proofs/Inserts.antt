@@ -1,6 +1,6 @@
 -- A lot that is put in where it belongs joins its side, and no other.
 use Rattle.std.proofs.Common.{◌≡◌, ℕ, ◌+◌, ◌<◌, Bool, true, false, not, ◌&&◌, ◌||◌, eqb, ltb, List, [], ◌∷◌, sym, refl, ap, ◌∙◌, inl, inr, arith}
-use Rattle.std.specs.List.{AllByRecursion as All}
+use Rattle.std.specs.List.{AllByRecursion}
 use Rattle.std.proofs.lemmas.Int.{ints}
 use Rattle.std.proofs.lemmas.Bool.Decides.{nat_tests}
 use Rattle.std.proofs.lemmas.Bool.{cond_both, cond-true, cond-false, cases_Bool, both_ways}
@@ -40,7 +40,7 @@ module _ (s : ℕ) (d : Side) (e : PostedLot) (at : stands_on s d e ≡ true) wh
   precedes_is x on h = ahead_on_side s d x e on at ∙ rank_is d x.lot e.lot x.number e.number h
 
   -- no lot is ahead of e
-  first_place : (ys : List PostedLot) → All (λ y. lot_ahead y e ≡ false) ys → All (λ y. y.number < e.number) ys → insert_lot d e.lot (lots_of ys s d) ≡ e.lot ∷ lots_of ys s d
+  first_place : (ys : List PostedLot) → AllByRecursion (λ y. lot_ahead y e ≡ false) ys → AllByRecursion (λ y. y.number < e.number) ys → insert_lot d e.lot (lots_of ys s d) ≡ e.lot ∷ lots_of ys s d
   first_place [] a f = refl
   first_place (y ∷ ys) a f =
       elim (cases_Bool (stands_on s d y)) [
@@ -48,7 +48,7 @@ module _ (s : ℕ) (d : Side) (e : PostedLot) (at : stands_on s d e ≡ true) wh
         | inr o ↦ simp o (first_place ys a.1 f.1)
       ]
 
-  insert_here : (xs : List PostedLot) → Sorted lot_ahead xs → All (λ x. x.number < e.number) xs → lots_of (ranked_insert lot_ahead e xs) s d ≡ insert_lot d e.lot (lots_of xs s d)
+  insert_here : (xs : List PostedLot) → Sorted lot_ahead xs → AllByRecursion (λ x. x.number < e.number) xs → lots_of (ranked_insert lot_ahead e xs) s d ≡ insert_lot d e.lot (lots_of xs s d)
   insert_here [] a f = cond-true _ _ _ at
   insert_here (x ∷ xs) a f =
       elim (cases_Bool (lot_ahead x e)) [
@@ -57,7 +57,7 @@ module _ (s : ℕ) (d : Side) (e : PostedLot) (at : stands_on s d e ≡ true) wh
           | inr o ↦ let more = insert_here xs a.1 f.1 in simp (h, o, more)
         ]
         | inr h ↦
-            let none : All (λ y. lot_ahead y e ≡ false) xs =
+            let none : AllByRecursion (λ y. lot_ahead y e ≡ false) xs =
             All-weaker (λ y. lot_ahead x y ≡ true) (λ y. lot_ahead y e ≡ false)
             (λ y k. elim (cases_Bool (lot_ahead y e)) [ inl m ↦ absurd (both_ways (lot_ahead x e) h (keys_transitive lot_number lot_keys x y e k m)) | inr m ↦ m ]) xs a.0 in
             ap (λ zs. lots_of zs s d) (cond-false (lot_ahead x e) (x ∷ ranked_insert lot_ahead e xs) (e ∷ x ∷ xs) h) ∙ cond-true _ _ _ at ∙ sym (first_place (x ∷ xs) (h, none) f)
@@ -71,16 +71,16 @@ module _ (s : ℕ) (d : Side) (e : PostedLot) (at : stands_on s d e ≡ true) wh
         | inr h ↦ simp (h, n)
       ]
 
-  pub insert_meaning : (xs : List PostedLot) → Sorted lot_ahead xs → All (λ x. x.number < e.number) xs → lots_of (ranked_insert lot_ahead e xs) ≡ with_lot (lots_of xs) s d e.lot
+  pub insert_meaning : (xs : List PostedLot) → Sorted lot_ahead xs → AllByRecursion (λ x. x.number < e.number) xs → lots_of (ranked_insert lot_ahead e xs) ≡ with_lot (lots_of xs) s d e.lot
   insert_meaning xs a f =
       set_side (lots_of xs) (lots_of (ranked_insert lot_ahead e xs)) s d (insert_lot d e.lot (lots_of xs s d)) (insert_here xs a f)
       (λ t g h. insert_elsewhere t g (on_other s d t g e h at) xs)
 
 -- what holds of e and of each lot holds of each afterwards
-pub all_inserted : (P : PostedLot → Type 0) (e : PostedLot) (xs : List PostedLot) → P e → All P xs → All P (ranked_insert lot_ahead e xs)
+pub all_inserted : (P : PostedLot → Type 0) (e : PostedLot) (xs : List PostedLot) → P e → AllByRecursion P xs → AllByRecursion P (ranked_insert lot_ahead e xs)
 all_inserted P e [] p a = (p, tt)
 all_inserted P e (x ∷ xs) p a =
-    cond_both (lot_ahead x e) (x ∷ ranked_insert lot_ahead e xs) (e ∷ x ∷ xs) (All P) (λ _. (a.0, all_inserted P e xs p a.1)) (λ _. (p, a))
+    cond_both (lot_ahead x e) (x ∷ ranked_insert lot_ahead e xs) (e ∷ x ∷ xs) (AllByRecursion P) (λ _. (a.0, all_inserted P e xs p a.1)) (λ _. (p, a))
 
 pub contracts_inserted : (d : Side) (l : Lot) (ls : List Lot) → contracts (insert_lot d l ls) ≡ l.size + contracts ls
 contracts_inserted d l [] = refl

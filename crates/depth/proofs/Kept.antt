@@ -1,7 +1,7 @@
 -- What a depth book keeps of its lots, and what it gives.
 use Rattle.std.proofs.Common.{◌≡◌, ℕ, ◌+◌, ◌-◌, ◌≤◌, true, cond, ltb, List, [], ◌∷◌, sym, ap, subst, arith}
 use mathlib.Core.Logic.{∥∥₁_map}
-use Rattle.std.specs.List.{AllByRecursion as All}
+use Rattle.std.specs.List.{AllByRecursion}
 use Rattle.std.proofs.lemmas.Bool.{cond_both, ltb-true}
 use Rattle.std.proofs.ByRecursion.{All-weaker}
 use Rattle.simple.specs.declared.lot.Side.{Side}
@@ -30,11 +30,11 @@ within_now xs n z s d ls is = let w = (sound_out xs n z).within s d in let e = a
 
 -- a lot that is reduced keeps what its size does not touch
 module _ (s : ℕ) (d : Side) where
-  all_taken : (P : PostedLot → Type 0) → ((x : PostedLot) (n : ℕ) → 1 ≤ n → P x → P (reduced x n)) → (q : ℕ) (xs : List PostedLot) → All P xs → All P (take_lots s d q xs)
+  all_taken : (P : PostedLot → Type 0) → ((x : PostedLot) (n : ℕ) → 1 ≤ n → P x → P (reduced x n)) → (q : ℕ) (xs : List PostedLot) → AllByRecursion P xs → AllByRecursion P (take_lots s d q xs)
   all_taken P so q [] a = tt
   all_taken P so q (x ∷ xs) a =
-      cond_both (stands_on s d x) (cond (ltb q x.lot.size) (reduced x (x.lot.size - q) ∷ xs) (take_lots s d (q - x.lot.size) xs)) (x ∷ take_lots s d q xs) (All P)
-      (λ _. cond_both (ltb q x.lot.size) (reduced x (x.lot.size - q) ∷ xs) (take_lots s d (q - x.lot.size) xs) (All P)
+      cond_both (stands_on s d x) (cond (ltb q x.lot.size) (reduced x (x.lot.size - q) ∷ xs) (take_lots s d (q - x.lot.size) xs)) (x ∷ take_lots s d q xs) (AllByRecursion P)
+      (λ _. cond_both (ltb q x.lot.size) (reduced x (x.lot.size - q) ∷ xs) (take_lots s d (q - x.lot.size) xs) (AllByRecursion P)
       (λ h. (let lt = ltb-true q x.lot.size h in so x (x.lot.size - q) (omega arith) a.0, a.1))
       (λ _. all_taken P so (q - x.lot.size) xs a.1))
       (λ _. (a.0, all_taken P so q xs a.1))

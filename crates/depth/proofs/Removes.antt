@@ -1,7 +1,7 @@
 -- A lot that is withdrawn.
 use Rattle.std.proofs.Common.{◌≡◌, ℕ, zero, suc, ◌≤◌, true, false, cond, eqb, List, [], ◌∷◌, ◌++◌, take, drop, is_some, Some, None, Option, sym, refl, ap, ◌∙◌, subst, inl, inr, add-one, arith, MatchOption}
 use mathlib.Core.Logic.{∥∥₁_map}
-use Rattle.std.specs.List.{slice_get, remove, AllByRecursion as All}
+use Rattle.std.specs.List.{slice_get, remove, AllByRecursion}
 use Rattle.std.proofs.lemmas.List.{take-append-drop}
 use Rattle.std.proofs.ByRecursion.{All-append, All-take, All-drop}
 use Rattle.std.proofs.lemmas.Bool.{cond_both, cond-true, cond-false, cases_Bool, eq-eqb, ne_eqb, or_left, or_right, or_from, not_from_false}
@@ -98,6 +98,6 @@ module _ (n : ℕ) (xs : List PostedLot) (i : ℕ) (x : PostedLot) (at : slice_g
           record {
             ranked = laws.sorted w.ranked;
             numbers = laws.distinct w.numbers;
-            fit = subst (All (Fit posted)) (sym left) (All-append (Fit posted) (take i xs) (drop (suc i) xs) (All-take (Fit posted) i xs w.fit) (All-drop (Fit posted) (suc i) xs w.fit));
+            fit = subst (AllByRecursion (Fit posted)) (sym left) (All-append (Fit posted) (take i xs) (drop (suc i) xs) (All-take (Fit posted) i xs w.fit) (All-drop (Fit posted) (suc i) xs w.fit));
             within = λ s d. let h = fewer s d in let k = w.within s d in omega arith;
           })

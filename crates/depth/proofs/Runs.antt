@@ -1,6 +1,6 @@
 -- The lots of one side stand together.
 use Rattle.std.proofs.Common.{◌≡◌, ℕ, ◌+◌, ◌<◌, ◌≤◌, Bool, true, false, not, ◌&&◌, ◌||◌, eqb, ltb, List, [], ◌∷◌, drop, pos, sym, refl, ap, ◌∙◌, inl, inr, one-add, arith}
-use Rattle.std.specs.List.{prefix_len, AllByRecursion as All}
+use Rattle.std.specs.List.{prefix_len, AllByRecursion}
 use Rattle.std.proofs.lemmas.Int.{ints}
 use Rattle.std.proofs.lemmas.Bool.Decides.{nat_tests}
 use Rattle.std.proofs.lemmas.Bool.{cond-true, cond-false, cases_Bool}
@@ -54,24 +54,24 @@ module _ (s : ℕ) where
 
 module _ (s : ℕ) (d : Side) where
   -- behind a lot that does not stand before the side, none does
-  all_past : (x : PostedLot) → stands_before s d x ≡ false → (ys : List PostedLot) → All (λ y. lot_ahead x y ≡ true) ys → All (λ y. stands_before s d y ≡ false) ys
+  all_past : (x : PostedLot) → stands_before s d x ≡ false → (ys : List PostedLot) → AllByRecursion (λ y. lot_ahead x y ≡ true) ys → AllByRecursion (λ y. stands_before s d y ≡ false) ys
   all_past x n = All-weaker (λ y. lot_ahead x y ≡ true) (λ y. stands_before s d y ≡ false) (λ y h. past s d x.series y.series x.side y.side _ h n)
 
   -- behind a lot that stands behind the side, none stands on it
-  pub all_off : (x : PostedLot) → stands_before s d x ≡ false → stands_on s d x ≡ false → (ys : List PostedLot) → All (λ y. lot_ahead x y ≡ true) ys → All (λ y. stands_on s d y ≡ false) ys
+  pub all_off : (x : PostedLot) → stands_before s d x ≡ false → stands_on s d x ≡ false → (ys : List PostedLot) → AllByRecursion (λ y. lot_ahead x y ≡ true) ys → AllByRecursion (λ y. stands_on s d y ≡ false) ys
   all_off x n o = All-weaker (λ y. lot_ahead x y ≡ true) (λ y. stands_on s d y ≡ false) (λ y h. off s d x.series y.series x.side y.side _ h n o)
 
-  pub no_more_before : (x : PostedLot) (xs : List PostedLot) → stands_before s d x ≡ false → Sorted lot_ahead (x ∷ xs) → All (λ y. stands_before s d y ≡ false) (x ∷ xs)
+  pub no_more_before : (x : PostedLot) (xs : List PostedLot) → stands_before s d x ≡ false → Sorted lot_ahead (x ∷ xs) → AllByRecursion (λ y. stands_before s d y ≡ false) (x ∷ xs)
   no_more_before x xs n a = (n, all_past x n xs a.0)
 
   pub before_is_off : (x : PostedLot) → stands_before s d x ≡ true → stands_on s d x ≡ false
   before_is_off x h = before_off s d x.series x.side h
 
-  pub none_on : (xs : List PostedLot) → All (λ y. stands_on s d y ≡ false) xs → lots_of xs s d ≡ []
+  pub none_on : (xs : List PostedLot) → AllByRecursion (λ y. stands_on s d y ≡ false) xs → lots_of xs s d ≡ []
   none_on [] a = refl
   none_on (x ∷ xs) a = cond-false _ _ _ a.0 ∙ none_on xs a.1
 
-  run_is : (xs : List PostedLot) → Sorted lot_ahead xs → All (λ y. stands_before s d y ≡ false) xs → run_lots s d xs ≡ lots_of xs s d
+  run_is : (xs : List PostedLot) → Sorted lot_ahead xs → AllByRecursion (λ y. stands_before s d y ≡ false) xs → run_lots s d xs ≡ lots_of xs s d
   run_is [] a n = refl
   run_is (x ∷ xs) a n =
       elim (cases_Bool (stands_on s d x)) [

@@ -1,6 +1,6 @@
 -- A quantity that is taken from one side, as the walk over its lots goes on.
 use Rattle.std.proofs.Common.{◌≡◌, ℕ, zero, suc, ◌+◌, ◌-◌, ◌<◌, ◌≤◌, true, false, cond, ltb, List, [], ◌∷◌, ◌++◌, length, take, drop, set, is_some, Some, Option, sym, refl, ap, ◌∙◌, subst, inl, inr, add-one, one-add, arith}
-use Rattle.std.specs.List.{slice_get, remove, prefix_len, AllByRecursion as All}
+use Rattle.std.specs.List.{slice_get, remove, prefix_len, AllByRecursion}
 use Rattle.std.proofs.lemmas.List.{append_assoc, append-nil, length-take-le, take-set-le, take_more_set, drop-set-lt, drop-set, drop_all, take-take}
 use Rattle.std.proofs.lemmas.List.Sums.{prefix_len-le-length}
 use Rattle.std.proofs.lemmas.Bool.{cond-true, cond-false, cases_Bool, lt-ltb, le-ltb}
@@ -29,10 +29,10 @@ pub record Walked (s : ℕ) (d : Side) (q : ℕ) (before : List PostedLot) (firs
   pub behind : first ≤ place
   pub within : place ≤ length xs
   pub sorted : Sorted lot_ahead (drop place xs)
-  pub none_before : All (λ y. stands_before s d y ≡ false) (drop place xs)
+  pub none_before : AllByRecursion (λ y. stands_before s d y ≡ false) (drop place xs)
 
 module _ (s : ℕ) (d : Side) where
-  pub unchanged : (q : ℕ) (xs : List PostedLot) → All (λ y. stands_on s d y ≡ false) xs → take_lots s d q xs ≡ xs
+  pub unchanged : (q : ℕ) (xs : List PostedLot) → AllByRecursion (λ y. stands_on s d y ≡ false) xs → take_lots s d q xs ≡ xs
   unchanged q [] a = refl
   unchanged q (x ∷ xs) a = cond-false _ _ _ a.0 ∙ ap (λ ys. x ∷ ys) (unchanged q xs a.1)
 
@@ -54,16 +54,16 @@ module _ (s : ℕ) (d : Side) where
             ap (λ k. take k (x ∷ xs) ++ take_lots s d q (drop k (x ∷ xs))) (sym count)
       ]
 
-  pub start_none : (xs : List PostedLot) → Sorted lot_ahead xs → All (λ y. stands_before s d y ≡ false) (drop (prefix_len (stands_before s d) xs) xs)
+  pub start_none : (xs : List PostedLot) → Sorted lot_ahead xs → AllByRecursion (λ y. stands_before s d y ≡ false) (drop (prefix_len (stands_before s d) xs) xs)
   start_none [] a = tt
   start_none (x ∷ xs) a =
       elim (cases_Bool (stands_before s d x)) [
         | inl b ↦
             let count : prefix_len (stands_before s d) (x ∷ xs) ≡ suc (prefix_len (stands_before s d) xs) = cond-true _ _ _ b ∙ one-add (prefix_len (stands_before s d) xs) in
-            subst (λ k. All (λ y. stands_before s d y ≡ false) (drop k (x ∷ xs))) (sym count) (start_none xs a.1)
+            subst (λ k. AllByRecursion (λ y. stands_before s d y ≡ false) (drop k (x ∷ xs))) (sym count) (start_none xs a.1)
         | inr b ↦
             let count : prefix_len (stands_before s d) (x ∷ xs) ≡ 0 = cond-false _ _ _ b in
-            subst (λ k. All (λ y. stands_before s d y ≡ false) (drop k (x ∷ xs))) (sym count) (no_more_before s d x xs b a)
+            subst (λ k. AllByRecursion (λ y. stands_before s d y ≡ false) (drop k (x ∷ xs))) (sym count) (no_more_before s d x xs b a)
       ]
 
   pub walk_starts : (q : ℕ) (xs : List PostedLot) (k : ℕ) → k ≡ prefix_len (stands_before s d) xs → Sorted lot_ahead xs → Walked s d q xs k xs q k
@@ -72,7 +72,7 @@ module _ (s : ℕ) (d : Side) where
     behind = omega arith;
     within = omega (arith, prefix_len-le-length (stands_before s d) xs);
     sorted = sorted_drop k xs a;
-    none_before = subst (λ j. All (λ y. stands_before s d y ≡ false) (drop j xs)) (sym is) (start_none xs a);
+    none_before = subst (λ j. AllByRecursion (λ y. stands_before s d y ≡ false) (drop j xs)) (sym is) (start_none xs a);
   }
 
   -- the walk has come to the lot x
@@ -83,7 +83,7 @@ module _ (s : ℕ) (d : Side) where
     pub walk_more : stands_on s d x ≡ true → x.lot.size ≤ left → Walked s d q old first xs (left - x.lot.size) (place + 1)
     walk_more on le =
         let sorted : Sorted lot_ahead (x ∷ drop (place + 1) xs) = subst (λ (ys : List PostedLot). Sorted lot_ahead ys) here w.sorted in
-        let none : All (λ y. stands_before s d y ≡ false) (x ∷ drop (place + 1) xs) = subst (All (λ y. stands_before s d y ≡ false)) here w.none_before in
+        let none : AllByRecursion (λ y. stands_before s d y ≡ false) (x ∷ drop (place + 1) xs) = subst (AllByRecursion (λ y. stands_before s d y ≡ false)) here w.none_before in
         record {
           so_far = w.so_far ∙ ap (λ ys. take first xs ++ take_lots s d left ys) here ∙ ap (λ ys. take first xs ++ ys) (cond-true _ _ _ on ∙ cond-false _ _ _ (le-ltb left x.lot.size le));
           behind = omega (arith, w.behind);
@@ -95,7 +95,7 @@ module _ (s : ℕ) (d : Side) where
     pub walk_off : stands_on s d x ≡ false → take first xs ++ drop place xs ≡ take_lots s d q old
     walk_off o =
         let sorted : Sorted lot_ahead (x ∷ drop (place + 1) xs) = subst (λ (ys : List PostedLot). Sorted lot_ahead ys) here w.sorted in
-        let none : All (λ y. stands_before s d y ≡ false) (x ∷ drop (place + 1) xs) = subst (All (λ y. stands_before s d y ≡ false)) here w.none_before in
+        let none : AllByRecursion (λ y. stands_before s d y ≡ false) (x ∷ drop (place + 1) xs) = subst (AllByRecursion (λ y. stands_before s d y ≡ false)) here w.none_before in
         let same : take_lots s d left (x ∷ drop (place + 1) xs) ≡ x ∷ drop (place + 1) xs = unchanged left (x ∷ drop (place + 1) xs) (o, all_off s d x none.0 o (drop (place + 1) xs) sorted.0) in
         ap (λ ys. take first xs ++ ys) (here ∙ sym same) ∙ ap (λ ys. take first xs ++ take_lots s d left ys) (sym here) ∙ sym w.so_far
 

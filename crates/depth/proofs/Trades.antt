@@ -1,6 +1,6 @@
 -- What a take moves, of lots that stand in rank.
 use Rattle.std.proofs.Common.{◌≡◌, ℕ, suc, ◌+◌, ◌-◌, ◌≤◌, Bool, true, false, ◌||◌, eqb, ltb, List, [], ◌∷◌, ◌++◌, take, drop, Ok, filter, sym, refl, ap, ◌∙◌, subst, inl, inr, one-add, arith}
-use Rattle.std.specs.List.{prefix_len, AllByRecursion as All}
+use Rattle.std.specs.List.{prefix_len, AllByRecursion}
 use Rattle.std.proofs.lemmas.List.{take-append-drop}
 use Rattle.std.proofs.lemmas.Bool.{cond_both, cond-true, cond-false, cases_Bool, cases_lt, lt-ltb, le-ltb, ltb-false, or_parts}
 use Rattle.simple.specs.declared.lot.Side.{Side}
@@ -43,11 +43,11 @@ module _ (s : ℕ) (d : Side) where
     gone : List PostedLot
     behind : List PostedLot
     stood : xs ≡ gone ++ behind
-    own : All (λ x. stands_on s d x ≡ true) gone
+    own : AllByRecursion (λ x. stands_on s d x ≡ true) gone
     whole : contracts (all_lots gone) ≤ q
     rest : Reduced s d (q - contracts (all_lots gone)) behind (take_lots s d q xs)
 
-  moved : (q : ℕ) (xs : List PostedLot) → Sorted lot_ahead xs → All (λ x. stands_before s d x ≡ false) xs → q ≤ contracts (lots_of xs s d) → Moved q xs
+  moved : (q : ℕ) (xs : List PostedLot) → Sorted lot_ahead xs → AllByRecursion (λ x. stands_before s d x ≡ false) xs → q ≤ contracts (lots_of xs s d) → Moved q xs
   moved q [] a n le = record { gone = []; behind = []; stood = refl; own = tt; whole = omega arith; rest = (omega arith, refl) }
   moved q (x ∷ xs) a n le =
       elim (cases_Bool (stands_on s d x)) [
@@ -74,24 +74,24 @@ module _ (s : ℕ) (d : Side) where
               }
         ]
         | inr off ↦
-            let all : All (λ y. stands_on s d y ≡ false) (x ∷ xs) = (off, all_off s d x n.0 off xs a.0) in
+            let all : AllByRecursion (λ y. stands_on s d y ≡ false) (x ∷ xs) = (off, all_off s d x n.0 off xs a.0) in
             let none = ap contracts (none_on s d (x ∷ xs) all) in
             record { gone = []; behind = x ∷ xs; stood = refl; own = tt; whole = omega arith; rest = inl (omega arith, unchanged s d q (x ∷ xs) all) }
       ]
 
-  front_off : (xs : List PostedLot) → All (λ x. stands_on s d x ≡ false) (take (prefix_len (stands_before s d) xs) xs)
+  front_off : (xs : List PostedLot) → AllByRecursion (λ x. stands_on s d x ≡ false) (take (prefix_len (stands_before s d) xs) xs)
   front_off [] = tt
   front_off (x ∷ xs) =
       elim (cases_Bool (stands_before s d x)) [
         | inl b ↦
             let count : prefix_len (stands_before s d) (x ∷ xs) ≡ suc (prefix_len (stands_before s d) xs) = cond-true _ _ _ b ∙ one-add (prefix_len (stands_before s d) xs) in
-            subst (λ k. All (λ y. stands_on s d y ≡ false) (take k (x ∷ xs))) (sym count) (before_is_off s d x b, front_off xs)
+            subst (λ k. AllByRecursion (λ y. stands_on s d y ≡ false) (take k (x ∷ xs))) (sym count) (before_is_off s d x b, front_off xs)
         | inr b ↦
             let count : prefix_len (stands_before s d) (x ∷ xs) ≡ 0 = cond-false _ _ _ b in
-            subst (λ k. All (λ y. stands_on s d y ≡ false) (take k (x ∷ xs))) (sym count) tt
+            subst (λ k. AllByRecursion (λ y. stands_on s d y ≡ false) (take k (x ∷ xs))) (sym count) tt
       ]
 
-  off_append : (xs ys : List PostedLot) → All (λ x. stands_on s d x ≡ false) xs → lots_of (xs ++ ys) s d ≡ lots_of ys s d
+  off_append : (xs ys : List PostedLot) → AllByRecursion (λ x. stands_on s d x ≡ false) xs → lots_of (xs ++ ys) s d ≡ lots_of ys s d
   off_append [] ys a = refl
   off_append (x ∷ xs) ys a = cond-false _ _ _ a.0 ∙ off_append xs ys a.1
 

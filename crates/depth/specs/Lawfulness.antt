@@ -1,7 +1,7 @@
 -- The lots of a depth book are lists that a simple book can have.
 use Rattle.std.specs.Prelude.{◌≡◌, ℕ, zero, suc, ◌<◌, Bool, true, false, cond, not, ◌&&◌, ◌||◌, ◌⊎◌, List, [], ◌∷◌, pos, neg_ℤ, ◌==◌, int_lt, nat_lt, refl}
 use Rattle.std.proofs.Common.{sym, ◌∙◌, inl, inr, arith}
-use Rattle.std.specs.List.{AllByRecursion as All}
+use Rattle.std.specs.List.{AllByRecursion}
 use Rattle.std.proofs.lemmas.Bool.{cond_both, and_parts, eqb-true, eq-eqb, ltb-false, lt-ltb, le-ltb, false≢true, cases_lt, and_from, or_left, or_right}
 use Rattle.simple.specs.declared.lot.Side.{Side}
 use Rattle.simple.specs.declared.lot.Side.TheVariants.{Bid, Offer}
@@ -91,21 +91,21 @@ side_precedes Bid x y m n h = bid_precedes x.price m y.price n x.customer y.cust
 side_precedes Offer x y m n h = offer_precedes x.price m y.price n x.customer y.customer h
 
 module _ (s : ℕ) (d : Side) where
-  all_behind : (x : PostedLot) → stands_on s d x ≡ true → (ys : List PostedLot) → All (λ y. lot_ahead x y ≡ true) ys → All (λ l. precedes d x.lot l ≡ true) (lots_of ys s d)
+  all_behind : (x : PostedLot) → stands_on s d x ≡ true → (ys : List PostedLot) → AllByRecursion (λ y. lot_ahead x y ≡ true) ys → AllByRecursion (λ l. precedes d x.lot l ≡ true) (lots_of ys s d)
   all_behind x on [] a = tt
   all_behind x on (y ∷ ys) a =
-      cond_both (stands_on s d y) (y.lot ∷ lots_of ys s d) (lots_of ys s d) (All (λ l. precedes d x.lot l ≡ true))
+      cond_both (stands_on s d y) (y.lot ∷ lots_of ys s d) (lots_of ys s d) (AllByRecursion (λ l. precedes d x.lot l ≡ true))
       (λ f. (side_precedes d x.lot y.lot x.number y.number (sym (ahead_on_side s d x y on f) ∙ a.0), all_behind x on ys a.1))
       (λ _. all_behind x on ys a.1)
 
-  side_ranked : (n : ℕ) (xs : List PostedLot) → Sorted lot_ahead xs → All (Fit n) xs → Ranked d (lots_of xs s d)
+  side_ranked : (n : ℕ) (xs : List PostedLot) → Sorted lot_ahead xs → AllByRecursion (Fit n) xs → Ranked d (lots_of xs s d)
   side_ranked n [] a f = tt
   side_ranked n (x ∷ xs) a f =
       cond_both (stands_on s d x) (x.lot ∷ lots_of xs s d) (lots_of xs s d) (Ranked d)
       (λ on. (f.0.lot, all_behind x on xs a.0, side_ranked n xs a.1 f.1))
       (λ _. side_ranked n xs a.1 f.1)
 
-  side_listed : (n : ℕ) (xs : List PostedLot) → All (Fit n) xs → last_series < s → lots_of xs s d ≡ []
+  side_listed : (n : ℕ) (xs : List PostedLot) → AllByRecursion (Fit n) xs → last_series < s → lots_of xs s d ≡ []
   side_listed n [] f h = refl
   side_listed n (x ∷ xs) f h =
       cond_both (stands_on s d x) (x.lot ∷ lots_of xs s d) (lots_of xs s d) (λ ls. ls ≡ [])

@@ -1,6 +1,6 @@
 -- The lots that stand on a depth book, and what they mean as a simple book.
 use Rattle.std.specs.Prelude.{ℕ, ◌≤◌, Bool, cond, ◌&&◌, List, [], ◌∷◌, ◌==◌}
-use Rattle.std.specs.List.{AllByRecursion as All}
+use Rattle.std.specs.List.{AllByRecursion}
 use Rattle.simple.specs.declared.lot.Side.{Side}
 use Rattle.simple.specs.declared.lot.Lot.{Lot}
 use Rattle.simple.specs.Limits.{last_series, side_limit}
@@ -34,5 +34,5 @@ pub record Fit (posted : ℕ) (x : PostedLot) : Type 0 where
 pub record Sound (xs : List PostedLot) (posted : ℕ) : Type 0 where
   pub ranked : Sorted lot_ahead xs
   pub numbers : Distinct lot_number xs
-  pub fit : All (Fit posted) xs
+  pub fit : AllByRecursion (Fit posted) xs
   pub within : (s : ℕ) (d : Side) → contracts (lots_of xs s d) ≤ side_limit

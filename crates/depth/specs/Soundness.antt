@@ -3,7 +3,7 @@ use Rattle.std.specs.Prelude.{◌≡◌, ℕ, ◌≤◌, Bool, true, false, List
 use Rattle.std.proofs.Math.Logic.{∥∥₁_elim, ∥∥₁_map}
 use mathlib.Core.HLevel.{⊥_prop}
 use Rattle.std.proofs.Math.Bridge.{le_prop}
-use Rattle.std.specs.List.{AllByRecursion as All}
+use Rattle.std.specs.List.{AllByRecursion}
 use Rattle.std.proofs.lemmas.Bool.{false≢true}
 use Rattle.simple.specs.declared.lot.Lot.{Lot}
 use Rattle.simple.specs.Lots as simple
@@ -19,7 +19,7 @@ true_out : (b : Bool) → ∥ b ≡ true ∥₁ → b ≡ true
 true_out true t = refl
 true_out false t = absurd (∥∥₁_elim t ⊥_prop (λ e. false≢true e))
 
-all_out : {X : Type 0} (P : X → Type 0) → ((x : X) → ∥ P x ∥₁ → P x) → (xs : List X) → ∥ All P xs ∥₁ → All P xs
+all_out : {X : Type 0} (P : X → Type 0) → ((x : X) → ∥ P x ∥₁ → P x) → (xs : List X) → ∥ AllByRecursion P xs ∥₁ → AllByRecursion P xs
 all_out P f [] t = tt
 all_out P f (x ∷ xs) t = (f x (∥∥₁_map t (λ a. a.0)), all_out P f xs (∥∥₁_map t (λ a. a.1)))
 

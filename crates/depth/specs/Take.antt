@@ -1,6 +1,6 @@
 -- What a take leaves of the lots that stand under their numbers.
 use Rattle.std.specs.Prelude.{◌≡◌, ℕ, ◌-◌, ◌<◌, ◌≤◌, true, false, cond, ◌⊎◌, List, [], ◌∷◌, ◌++◌, Ok, Err, nat_lt}
-use Rattle.std.specs.List.{AllByRecursion as All}
+use Rattle.std.specs.List.{AllByRecursion}
 use Rattle.simple.specs.declared.lot.Side.{Side}
 use Rattle.simple.specs.Lots.{contracts}
 use Rattle.simple.specs.Take.{Done, resized}
@@ -33,8 +33,8 @@ pub record Taken (s : ℕ) (d : Side) (q : ℕ) (xs ys : List PostedLot) : Type 
   pub left : List PostedLot
   pub stood : xs ≡ before ++ (gone ++ behind)
   pub stand : ys ≡ before ++ left
-  pub front : All (λ x. stands_on s d x ≡ false) before
-  pub own : All (λ x. stands_on s d x ≡ true) gone
+  pub front : AllByRecursion (λ x. stands_on s d x ≡ false) before
+  pub own : AllByRecursion (λ x. stands_on s d x ≡ true) gone
   pub whole : contracts (all_lots gone) ≤ q
   pub rest : Reduced s d (q - contracts (all_lots gone)) behind left
 

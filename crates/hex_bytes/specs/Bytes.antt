@@ -1,6 +1,6 @@
 -- Bytes as two hexadecimal digits: which words are bytes, which byte each writes, and how a byte is written.
 use Rattle.std.specs.Prelude.{◌≡◌, ℕ, ◌+◌, ◌-◌, ◌*◌, ◌/◌, ◌%◌, ◌≤◌, Bool, cond, ◌&&◌, ◌||◌, ◌⊎◌, List, [], ◌∷◌, length, Some, None, Option, nat_le, nat_lt, slice_index}
-use Rattle.std.specs.List.{AllByRecursion as All}
+use Rattle.std.specs.List.{AllByRecursion}
 
 -- a hexadecimal digit is one of the bytes `0` to `9`, `A` to `F` and `a` to `f`
 abbrev pub HexDigit : ℕ → Type 0
@@ -17,7 +17,7 @@ hex_value b = cond (nat_le b 57) (b - 48) (cond (nat_le b 70) (b - 55) (b - 87))
 -- a byte is two hexadecimal digits, the high one first
 pub record HexByte (w : List ℕ) : Type 0 where
   pub two : length w ≡ 2
-  pub digits : All HexDigit w
+  pub digits : AllByRecursion HexDigit w
 
 abbrev pub byte_value : List ℕ → ℕ
 byte_value w = hex_value (slice_index w 0) * 16 + hex_value (slice_index w 1)

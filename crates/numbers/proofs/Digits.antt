@@ -1,7 +1,7 @@
 -- What the digits of a number say of it: the steps of the loop that reads them, and the test of a whole word.
 use Rattle.std.proofs.Common.{◌≡◌, ℕ, ◌+◌, ◌-◌, ◌*◌, ◌<◌, ◌≤◌, true, List, [], ◌∷◌, length, get_or, take, drop, Some, None, Option, sym, refl, ◌∙◌, subst, arith, rules}
 use Rattle.std.specs.Option.{SomeIff}
-use Rattle.std.specs.List.{AllByRecursion as All}
+use Rattle.std.specs.List.{AllByRecursion}
 use Rattle.std.proofs.ByRecursion.{All-get_or, All-more}
 use Rattle.std.proofs.lemmas.List.{at_drop_more, at_drop_all, take_all}
 use Rattle.std.proofs.lemmas.Str.Parse.{IsNumeralModel, numerals_by_fold}
@@ -14,14 +14,14 @@ value_after_ge n [] = omega arith
 value_after_ge n (d ∷ ds) = omega (arith, value_after_ge (n * 10 + (d - 48)) ds)
 
 -- the words of a number here are those of the library
-pub own : IsNumeralModel (All Digit) value
+pub own : IsNumeralModel (AllByRecursion Digit) value
 own = numerals_by_fold _ (search rules) value_after (search rules)
 
-digits_pass : (w : List ℕ) → All Digit w → all_digits w ≡ true
+digits_pass : (w : List ℕ) → AllByRecursion Digit w → all_digits w ≡ true
 digits_pass [] h = refl
 digits_pass (b ∷ bs) h = and_from _ _ (and_from _ _ (le-leb 48 b h.0.0) (le-leb b 57 h.0.1)) (digits_pass bs h.1)
 
-digits_passed : (w : List ℕ) → all_digits w ≡ true → All Digit w
+digits_passed : (w : List ℕ) → all_digits w ≡ true → AllByRecursion Digit w
 digits_passed [] e = tt
 digits_passed (b ∷ bs) e =
     let p = and_parts _ _ e in
@@ -45,7 +45,7 @@ answered limit w r h = same_checked r (number_below limit w) _ _ h (number_says 
 
 -- the bytes before i are digits, and n is their number, below the limit
 pub record Sofar (limit : ℕ) (w : List ℕ) (i n : ℕ) : Type 0 where
-  pub digits : All Digit (take i w)
+  pub digits : AllByRecursion Digit (take i w)
   pub number : value_after n (drop i w) ≡ value w
   pub below : n < limit
 
@@ -69,4 +69,4 @@ module _ (limit : ℕ) (w : List ℕ) (i n : ℕ) (h : Sofar limit w i n) where
   pub all_read : 0 < length w → length w ≤ i → NumberBelow limit w × (n ≡ value w)
   all_read some l =
       let same : n ≡ value w = sym (at_drop_all (value_after n) w i l) ∙ h.number in
-      (record { some = some; digits = subst (All Digit) (take_all i w l) h.digits; below = subst (λ x. x < limit) same h.below }, same)
+      (record { some = some; digits = subst (AllByRecursion Digit) (take_all i w l) h.digits; below = subst (λ x. x < limit) same h.below }, same)

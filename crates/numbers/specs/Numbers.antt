@@ -1,7 +1,7 @@
 -- Numbers in decimal: which words are numbers, and which number each of them writes.
 use Rattle.std.specs.Prelude.{◌≡◌, ℕ, ◌+◌, ◌-◌, ◌*◌, ◌^◌, ◌<◌, ◌≤◌, Bool, true, cond, ◌&&◌, ◌⊎◌, List, [], ◌∷◌, length, ℤ, pos, neg_ℤ, Some, None, Option, ◌==◌, nat_le, nat_lt}
 use Rattle.std.specs.Option.{option_map}
-use Rattle.std.specs.List.{AllByRecursion as All}
+use Rattle.std.specs.List.{AllByRecursion}
 
 -- a digit is one of the bytes `0` to `9`
 abbrev pub Digit : ℕ → Type 0
@@ -18,7 +18,7 @@ value ds = value_after 0 ds
 -- a number below a limit is one digit or more, whatever they begin with, with a value below it
 pub record NumberBelow (limit : ℕ) (w : List ℕ) : Type 0 where
   pub some : 0 < length w
-  pub digits : All Digit w
+  pub digits : AllByRecursion Digit w
   pub below : value w < limit
 
 -- the same as a test

@@ -1,7 +1,7 @@
 -- The bests that an order takes, one leg after another.
 use Rattle.std.proofs.Common.{◌≡◌, ℕ, suc, ◌+◌, ◌-◌, ◌*◌, ◌/◌, ◌<◌, ◌≤◌, min, Bool, true, false, cond, ◌||◌, leb, List, [], ◌∷◌, ◌++◌, map, length, take, drop, set, replicate, ℤ, ◌≤ℤ◌, MatchBool, fold, sym, refl, ap, ◌∙◌, le_trans, mul_comm, mul-le-mul_left, le-div_iff_mul-le, arith}
 use native.Mathlib.Nat.{mul-div-le}
-use Rattle.std.specs.List.{AllByRecursion as All}
+use Rattle.std.specs.List.{AllByRecursion}
 use Rattle.std.proofs.lemmas.List.{map_more, set_at, append_assoc, length-map, length-take-le, take_all, drop_all}
 use Rattle.std.proofs.lemmas.Int.{ints}
 use Rattle.std.proofs.lemmas.List.Sums.{fold_more}
@@ -65,13 +65,13 @@ folded_least buy (m ∷ ms) q = let more = folded_least buy ms (min q (available
 fits_leg : (a r n : ℕ) → n ≤ a / r → r * n ≤ a
 fits_leg a r n h = le_trans (mul-le-mul_left r h) (mul-div-le a r)
 
-folded_fits : (buy : Bool) (ms : List LegMarket) (q : ℕ) → All (λ m. m.ratio * fold (lesser buy) q ms ≤ size_taken buy m) ms
+folded_fits : (buy : Bool) (ms : List LegMarket) (q : ℕ) → AllByRecursion (λ m. m.ratio * fold (lesser buy) q ms ≤ size_taken buy m) ms
 folded_fits buy [] q = tt
 folded_fits buy (m ∷ ms) q =
     let least = folded_least buy ms (min q (available buy m)) in
     (fits_leg (size_taken buy m) m.ratio (fold (lesser buy) (min q (available buy m)) ms) (omega arith), folded_fits buy ms (min q (available buy m)))
 
-folded_greatest : (buy : Bool) (ms : List LegMarket) (q k : ℕ) → legs_sound ms ≡ true → k ≤ q → All (λ m. m.ratio * k ≤ size_taken buy m) ms → k ≤ fold (lesser buy) q ms
+folded_greatest : (buy : Bool) (ms : List LegMarket) (q k : ℕ) → legs_sound ms ≡ true → k ≤ q → AllByRecursion (λ m. m.ratio * k ≤ size_taken buy m) ms → k ≤ fold (lesser buy) q ms
 folded_greatest buy [] q k s h a = h
 folded_greatest buy (m ∷ ms) q k s h a =
     let parts = and_parts (leg_sound m) (legs_sound ms) s in
@@ -97,7 +97,7 @@ pub greatest : (ms : List LegMarket) (buy : Bool) (limit : ℤ) (q : ℕ) → So
 unfolding most
 greatest ms buy limit q s = go (reaches ms buy limit) refl
   where
-    none_fits : (ks : List LegMarket) → All (λ m. m.ratio * 0 ≤ size_taken buy m) ks
+    none_fits : (ks : List LegMarket) → AllByRecursion (λ m. m.ratio * 0 ≤ size_taken buy m) ks
     none_fits [] = tt
     none_fits (m ∷ ks) = (omega arith, none_fits ks)
 

@@ -1,6 +1,6 @@
 -- What an order trades at with the simple book, and how much of it.
 use Rattle.std.specs.Prelude.{◌≡◌, ℕ, ◌*◌, ◌/◌, ◌≤◌, min, Bool, true, false, cond, not, List, map, ℤ, ◌≤ℤ◌, MatchBool, fold, int_le}
-use Rattle.std.specs.List.{AllByRecursion as All}
+use Rattle.std.specs.List.{AllByRecursion}
 use Rattle.pricing.specs.declared.market.LegMarket.{LegMarket}
 use Rattle.pricing.specs.declared.market.NetPrice.{NetPrice}
 use Rattle.pricing.specs.Legs.{net_bid, net_offer, in_places}
@@ -47,7 +47,7 @@ taken_at ms buy = record { price = net_taken ms buy; legs = prices_taken ms buy 
 
 -- so many strategies fit: no more than the order has, and ratio times as many within each best size
 abbrev pub Fits : List LegMarket → Bool → ℕ → ℕ → Type 0
-Fits ms buy q n = (n ≤ q) × All (λ m. m.ratio * n ≤ size_taken buy m) ms
+Fits ms buy q n = (n ≤ q) × AllByRecursion (λ m. m.ratio * n ≤ size_taken buy m) ms
 
 -- the quantity is the greatest that fits, where the limit reaches
 pub record Greatest (ms : List LegMarket) (buy : Bool) (limit : ℤ) (q n : ℕ) : Type 0 where

@@ -1,6 +1,6 @@
 -- What it does to a list to put an entry in where it belongs.
 use Rattle.std.proofs.Common.{◌≡◌, ℕ, ◌+◌, ◌≤◌, Bool, true, false, cond, not, List, [], ◌∷◌, length, take, filter, sym, refl, ap, ◌∙◌, inl, inr, add-one, one-add, arith, length-take}
-use Rattle.std.specs.List.{insert, AllByRecursion as All}
+use Rattle.std.specs.List.{insert, AllByRecursion}
 use Rattle.std.specs.List.Sorted.{IsPermutation}
 use Rattle.std.proofs.ByRecursion.{All-weaker}
 use Rattle.std.proofs.lemmas.Int.{clamps}
@@ -26,10 +26,10 @@ module _ {X : Type 0} (ahead : X → X → Bool) (e : X) where
   place_within xs n = omega (arith, clamps, prefix_len-le-length (λ x. ahead x e) (take n xs), length-take n xs)
 
   -- what holds of e and of each entry holds of each afterwards
-  pub all_insert : (P : X → Type 0) (xs : List X) → P e → All P xs → All P (ranked_insert ahead e xs)
+  pub all_insert : (P : X → Type 0) (xs : List X) → P e → AllByRecursion P xs → AllByRecursion P (ranked_insert ahead e xs)
   all_insert P [] p a = (p, tt)
   all_insert P (x ∷ xs) p a =
-      elim (ahead x e) as (λ b. All P (cond b (x ∷ ranked_insert ahead e xs) (e ∷ x ∷ xs)))
+      elim (ahead x e) as (λ b. AllByRecursion P (cond b (x ∷ ranked_insert ahead e xs) (e ∷ x ∷ xs)))
       [ true ↦ (a.0, all_insert P xs p a.1) | false ↦ (p, a) ]
 
   -- it adds e, and nothing else
@@ -48,7 +48,7 @@ module _ {X : Type 0} (ahead : X → X → Bool) (e : X) where
   insert_count xs = length_permutation (e ∷ xs) (ranked_insert ahead e xs) (insert_keeps xs) ∙ sym (add-one (length xs))
 
   -- what e and each entry are to one another, all entries are afterwards
-  insert_pairwise : (R : X → X → Type 0) (xs : List X) → All (λ x. R x e) xs → All (R e) xs → Pairwise R xs → Pairwise R (ranked_insert ahead e xs)
+  insert_pairwise : (R : X → X → Type 0) (xs : List X) → AllByRecursion (λ x. R x e) xs → AllByRecursion (R e) xs → Pairwise R xs → Pairwise R (ranked_insert ahead e xs)
   insert_pairwise R [] low high p = (tt, tt)
   insert_pairwise R (x ∷ xs) low high p =
       elim (ahead x e) as (λ b. Pairwise R (cond b (x ∷ ranked_insert ahead e xs) (e ∷ x ∷ xs)))
@@ -56,7 +56,7 @@ module _ {X : Type 0} (ahead : X → X → Bool) (e : X) where
 
   pub insert_distinct : (serial : X → ℕ) (xs : List X) → Absent serial (serial e) xs → Distinct serial xs → Distinct serial (ranked_insert ahead e xs)
   insert_distinct serial xs fresh d =
-      let back : All (λ x. serial e ≡ serial x → ⊥) xs = All-weaker (λ x. serial x ≡ serial e → ⊥) (λ x. serial e ≡ serial x → ⊥) (λ x ne same. ne (sym same)) xs fresh in
+      let back : AllByRecursion (λ x. serial e ≡ serial x → ⊥) xs = All-weaker (λ x. serial x ≡ serial e → ⊥) (λ x. serial e ≡ serial x → ⊥) (λ x ne same. ne (sym same)) xs fresh in
       insert_pairwise (λ x y. serial x ≡ serial y → ⊥) xs fresh back d
 
   module _ (transitive : (x y z : X) → ahead x y ≡ true → ahead y z ≡ true → ahead x z ≡ true) where
@@ -67,10 +67,10 @@ module _ {X : Type 0} (ahead : X → X → Bool) (e : X) where
         elim (cases_Bool (ahead x e)) [
           | inl h ↦ simp h (ap (λ ys. x ∷ ys) (insert_placed xs s.1))
           | inr h ↦
-              let none : All (λ y. ahead y e ≡ false) xs =
+              let none : AllByRecursion (λ y. ahead y e ≡ false) xs =
               All-weaker (λ y. ahead x y ≡ true) (λ y. ahead y e ≡ false)
               (λ y k. elim (cases_Bool (ahead y e)) [ inl m ↦ absurd (both_ways (ahead x e) h (transitive x y e k m)) | inr m ↦ m ]) xs s.0 in
-              let rest : All (λ y. not (ahead y e) ≡ true) xs = All-weaker (λ y. ahead y e ≡ false) (λ y. not (ahead y e) ≡ true) (λ y. not_from_false (ahead y e)) xs none in
+              let rest : AllByRecursion (λ y. not (ahead y e) ≡ true) xs = All-weaker (λ y. ahead y e ≡ false) (λ y. not (ahead y e) ≡ true) (λ y. not_from_false (ahead y e)) xs none in
               let before : filter (λ y. ahead y e) xs ≡ [] = kept_none (λ y. ahead y e) xs none in
               let behind : filter (λ y. not (ahead y e)) xs ≡ xs = kept_all (λ y. not (ahead y e)) xs rest in
               simp (h, before, behind)

@@ -1,6 +1,6 @@
 -- What it does to a list to take an entry out.
 use Rattle.std.proofs.Common.{◌≡◌, ℕ, zero, suc, Bool, true, false, not, eqb, List, [], ◌∷◌, take, drop, Some, None, sym, ap, ◌∙◌, subst, arith}
-use Rattle.std.specs.List.{slice_get, remove, AllByRecursion as All}
+use Rattle.std.specs.List.{slice_get, remove, AllByRecursion}
 use Rattle.std.specs.List.Sorted.{IsPermutation}
 use Rattle.std.proofs.ByRecursion.{All-weaker, All-append, All-take, All-drop}
 use Rattle.std.proofs.lemmas.List.Sorted.{IsPermutation-refl, IsPermutation-cons, IsPermutation-trans}
@@ -10,7 +10,7 @@ use Rattle.ranked.specs.Laws.{LawfulRemoval}
 use Rattle.ranked.proofs.Lists.{kept_all, all_nth, swap_first}
 
 -- what holds of each entry holds of each that is left
-pub all_removed : {X : Type 0} (P : X → Type 0) (xs : List X) (i : ℕ) → All P xs → All P (remove xs i)
+pub all_removed : {X : Type 0} (P : X → Type 0) (xs : List X) (i : ℕ) → AllByRecursion P xs → AllByRecursion P (remove xs i)
 all_removed P xs i a = All-append P (take i xs) (drop (suc i) xs) (All-take P i xs a) (All-drop P (suc i) xs a)
 
 -- the entries that are left are to one another what they were
@@ -34,7 +34,7 @@ removed_others serial [] i x at d = let z : ◌≡◌ {A = ℕ} 0 1 = cc in absu
 removed_others {X} serial (y ∷ xs) zero x at d =
     let same : y ≡ x = cc in
     let gone : not (eqb (serial y) (serial x)) ≡ false = ap not (eq-eqb (serial y) (serial x) (ap serial same)) in
-    let stays : All (λ z. not (eqb (serial z) (serial x)) ≡ true) xs =
+    let stays : AllByRecursion (λ z. not (eqb (serial z) (serial x)) ≡ true) xs =
     All-weaker (λ z. serial y ≡ serial z → ⊥) (λ z. not (eqb (serial z) (serial x)) ≡ true)
     (λ z ne. ap not (ne_eqb (serial z) (serial x) (λ q. ne (ap serial same ∙ sym q)))) xs d.0 in
     sym (cond-false _ _ _ gone ∙ kept_all (λ z. not (eqb (serial z) (serial x))) xs stays)

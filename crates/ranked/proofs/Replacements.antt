@@ -1,6 +1,6 @@
 -- What it does to a list to put another entry in the place of one.
 use Rattle.std.proofs.Common.{◌≡◌, ℕ, zero, suc, Bool, true, List, [], ◌∷◌, set, Some, None, sym, refl, ◌∙◌, subst, arith}
-use Rattle.std.specs.List.{slice_get, AllByRecursion as All}
+use Rattle.std.specs.List.{slice_get, AllByRecursion}
 use Rattle.std.specs.List.Sorted.{IsPermutation}
 use Rattle.std.proofs.ByRecursion.{All-weaker}
 use Rattle.std.proofs.lemmas.List.Sorted.{IsPermutation-refl, IsPermutation-cons, IsPermutation-trans}
@@ -9,7 +9,7 @@ use Rattle.ranked.specs.Laws.{LawfulReplacement}
 use Rattle.ranked.proofs.Lists.{swap_first}
 
 -- what holds of each entry, and then of e too, holds of each afterwards
-pub all_replaced : {X : Type 0} (P : X → Type 0) (xs : List X) (i : ℕ) (e : X) → ((x : X) → slice_get xs i ≡ Some x → P x → P e) → All P xs → All P (set xs i e)
+pub all_replaced : {X : Type 0} (P : X → Type 0) (xs : List X) (i : ℕ) (e : X) → ((x : X) → slice_get xs i ≡ Some x → P x → P e) → AllByRecursion P xs → AllByRecursion P (set xs i e)
 all_replaced P [] zero e so a = tt
 all_replaced P [] (suc i) e so a = tt
 all_replaced P (x ∷ xs) zero e so a = (so x refl a.0, a.1)

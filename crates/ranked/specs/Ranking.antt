@@ -1,6 +1,6 @@
 -- Lists of entries in rank. `ahead x y` says that x stands before y, and `serial x` is the number of x.
 use Rattle.std.specs.Prelude.{◌≡◌, ℕ, suc, Bool, true, cond, not, List, [], ◌∷◌, ◌++◌, Some, None, filter, Option, ◌==◌, ◌≢◌}
-use Rattle.std.specs.List.{slice_get, prefix_len, AllByRecursion as All}
+use Rattle.std.specs.List.{slice_get, prefix_len, AllByRecursion}
 use Rattle.std.specs.Option.{option_map}
 
 -- the place of the first entry that has the number
@@ -28,7 +28,7 @@ without serial n xs = filter (λ x. not (serial x == n)) xs
 -- each entry is so related to every later one
 abbrev pub Pairwise : {X : Type 0} → (X → X → Type 0) → List X → Type 0
 Pairwise R [] = Unit {0}
-Pairwise R (x ∷ xs) = All (R x) xs × Pairwise R xs
+Pairwise R (x ∷ xs) = AllByRecursion (R x) xs × Pairwise R xs
 
 -- each entry is ahead of every later one
 abbrev pub Sorted : {X : Type 0} → (X → X → Bool) → List X → Type 0
@@ -40,7 +40,7 @@ Distinct serial xs = Pairwise (λ x y. serial x ≢ serial y) xs
 
 -- no entry has the number
 abbrev pub Absent : {X : Type 0} → (X → ℕ) → ℕ → List X → Type 0
-Absent serial n xs = All (λ x. serial x ≢ n) xs
+Absent serial n xs = AllByRecursion (λ x. serial x ≢ n) xs
 
 -- an entry that has the number stands at the place
 abbrev pub Standing : {X : Type 0} → (X → ℕ) → ℕ → List X → ℕ → Type 0

@@ -1,6 +1,6 @@
 -- What is left of an order among those at rest, and which orders others stem from.
 use Rattle.std.proofs.Common.{◌≡◌, ℕ, ◌≤◌, eqb, List, [], ◌∷◌, Some, None, Option, sym, refl, ap, ◌∙◌, subst, arith, MatchOption}
-use Rattle.std.specs.List.{ContainsAt as Has, AllByRecursion as All}
+use Rattle.std.specs.List.{ContainsAt as Has, AllByRecursion}
 use Rattle.std.proofs.ByRecursion.{all-has, All-weaker, all_has_itself, has_append_right}
 use Rattle.std.proofs.lemmas.Bool.{cond-true, cond-false, cond_both, eq-eqb, ne_eqb, eqb-true, eqb-false}
 use Rattle.ranked.specs.Ranking.{Distinct, Absent}
@@ -36,10 +36,10 @@ Stem os o = (p : Order) × Has os p × Same p o
 abbrev pub Stems : List Order → List Order → Type 0
 Stems os later = (o : Order) → Has later o → (p : Order) × Has os p × Same p o
 
-pub stems_from_all : (os later : List Order) → All (Stem os) later → Stems os later
+pub stems_from_all : (os later : List Order) → AllByRecursion (Stem os) later → Stems os later
 stems_from_all os later a o h = all-has (Stem os) later o a h
 
-pub all_stem : (os : List Order) → All (Stem os) os
+pub all_stem : (os : List Order) → AllByRecursion (Stem os) os
 all_stem os = All-weaker (Has os) (Stem os) (λ o h. (o, h, same_refl o)) os (all_has_itself os)
 
 pub stems_refl : (os : List Order) → Stems os os
@@ -98,11 +98,11 @@ pub left_absent : (n : ℕ) (os : List Order) → Absent order_number n os → l
 left_absent n os a = ap quantity_in (with_absent n os a)
 
 -- under distinct numbers each order is found
-with_each : (os : List Order) → Distinct order_number os → All (λ o. order_with o.number os ≡ Some o) os
+with_each : (os : List Order) → Distinct order_number os → AllByRecursion (λ o. order_with o.number os ≡ Some o) os
 with_each [] d = tt
 with_each (x ∷ os) d = (with_here x.number x os refl, behind os d.0 (with_each os d.1))
   where
-    behind : (ys : List Order) → All (λ y. x.number ≡ y.number → ⊥) ys → All (λ o. order_with o.number os ≡ Some o) ys → All (λ o. order_with o.number (x ∷ os) ≡ Some o) ys
+    behind : (ys : List Order) → AllByRecursion (λ y. x.number ≡ y.number → ⊥) ys → AllByRecursion (λ o. order_with o.number os ≡ Some o) ys → AllByRecursion (λ o. order_with o.number (x ∷ os) ≡ Some o) ys
     behind [] ne a = tt
     behind (y ∷ ys) ne a = (with_past y.number x os ne.0 ∙ a.0, behind ys ne.1 a.1)
 

@@ -1,6 +1,6 @@
 -- The best order of a side: it is one of the strategy and has the best limit, and a side without one has no order.
 use Rattle.std.proofs.Common.{◌≡◌, ℕ, suc, Bool, true, false, not, eqb, ltb, List, [], ◌∷◌, ℤ, pos, ◌≤ℤ◌, Some, None, MatchBool, sym, refl, ap, ◌∙◌, subst, arith}
-use Rattle.std.specs.List.{AllByRecursion as All}
+use Rattle.std.specs.List.{AllByRecursion}
 use Rattle.std.proofs.ByRecursion.{all-has, All-weaker}
 use Rattle.std.proofs.lemmas.Int.{ints}
 use Rattle.std.proofs.lemmas.Bool.{and_parts, and_from, eqb-true, eq-eqb, not-true, true≢false}
@@ -51,24 +51,24 @@ same_better true x = omega (arith, ints)
 same_better false x = omega (arith, ints)
 
 module _ (s : ℕ) (buy : Bool) where
-  pub best_limit : (os : List Order) (b : Order) → Sorted order_ahead os → best_order s buy os ≡ Some b → All (λ o. is_of s buy o ≡ true → Better buy b o) os
+  pub best_limit : (os : List Order) (b : Order) → Sorted order_ahead os → best_order s buy os ≡ Some b → AllByRecursion (λ o. is_of s buy o ≡ true → Better buy b o) os
   unfolding best_order
   best_limit [] b sorted e = tt
   best_limit (x ∷ os) b sorted e = go (is_of s buy x) refl (best_limit os b sorted.1)
     where
-      go : (t : Bool) → is_of s buy x ≡ t → (best_order s buy os ≡ Some b → All (λ o. is_of s buy o ≡ true → Better buy b o) os) → All (λ o. is_of s buy o ≡ true → Better buy b o) (x ∷ os)
+      go : (t : Bool) → is_of s buy x ≡ t → (best_order s buy os ≡ Some b → AllByRecursion (λ o. is_of s buy o ≡ true → Better buy b o) os) → AllByRecursion (λ o. is_of s buy o ≡ true → Better buy b o) (x ∷ os)
       go true et ih =
           let is : x ≡ b = some_same x b (rw et at e) in
-          let P : Order → Type 0 = λ b. All (λ o. is_of s buy o ≡ true → Better buy b o) (x ∷ os) in
+          let P : Order → Type 0 = λ b. AllByRecursion (λ o. is_of s buy o ≡ true → Better buy b o) (x ∷ os) in
           subst P is (λ _. same_better buy x, All-weaker (λ y. order_ahead x y ≡ true) (λ o. is_of s buy o ≡ true → Better buy x o) (λ y h. ahead_better buy s x y et h) os sorted.0)
       go false et ih = (λ m. absurd (true≢false (sym m ∙ et)), ih (rw et at e))
 
-  pub best_none : (os : List Order) → best_order s buy os ≡ None → All (λ o. is_of s buy o ≡ true → ⊥) os
+  pub best_none : (os : List Order) → best_order s buy os ≡ None → AllByRecursion (λ o. is_of s buy o ≡ true → ⊥) os
   unfolding best_order
   best_none [] e = tt
   best_none (x ∷ os) e = go (is_of s buy x) refl (best_none os)
     where
-      go : (t : Bool) → is_of s buy x ≡ t → (best_order s buy os ≡ None → All (λ o. is_of s buy o ≡ true → ⊥) os) → All (λ o. is_of s buy o ≡ true → ⊥) (x ∷ os)
+      go : (t : Bool) → is_of s buy x ≡ t → (best_order s buy os ≡ None → AllByRecursion (λ o. is_of s buy o ≡ true → ⊥) os) → AllByRecursion (λ o. is_of s buy o ≡ true → ⊥) (x ∷ os)
       go true et ih = none_some x (sym (rw et at e))
       go false et ih = (λ m. true≢false (sym m ∙ et), ih (rw et at e))
 

@@ -1,6 +1,6 @@
 -- A legged order is given all that it takes, and what an execution takes of the lots.
 use Rattle.std.proofs.Common.{◌≡◌, ℕ, ◌+◌, ◌*◌, ◌<◌, ◌≤◌, Bool, true, false, cond, not, ◌||◌, eqb, ltb, List, [], ◌∷◌, Some, None, Ok, Err, fold, Option, sym, refl, ap, ◌∙◌, subst, mul-le-mul_left, arith}
-use Rattle.std.specs.List.{AllByRecursion as All}
+use Rattle.std.specs.List.{AllByRecursion}
 use Rattle.std.proofs.lemmas.Bool.{eqb-true, eqb-false, eq-eqb, ne_eqb, le-ltb, or_from, cond-true, cond-false, cond_both}
 use Rattle.refusals.specs.declared.reason.Reason.TheVariants.{NoSeries, TooMany}
 use Rattle.refusals.specs.declared.station.Station.TheVariants.{Take}
@@ -88,17 +88,17 @@ module _ (buy : Bool) (q : ℕ) where
       let size = side_size b leg.series (cond buy leg.bought (not leg.bought)) in
       accepted b leg.series (side_taken buy leg) (leg.ratio * q) low (omega arith) (subst (λ n. leg.ratio * q ≤ n) (sym size) few)
 
-  legs_given : (legs : List Leg) (b : Lots) (ms : List LegMarket) → All (λ l. l.series ≤ last_series) legs → All RatioFits legs → 1 ≤ q → markets_of b legs ≡ Some ms → All (λ m. m.ratio * q ≤ size_taken buy m) ms → Given buy q b legs
+  legs_given : (legs : List Leg) (b : Lots) (ms : List LegMarket) → AllByRecursion (λ l. l.series ≤ last_series) legs → AllByRecursion RatioFits legs → 1 ≤ q → markets_of b legs ≡ Some ms → AllByRecursion (λ m. m.ratio * q ≤ size_taken buy m) ms → Given buy q b legs
   unfolding markets_of
   legs_given [] b ms low fits some e h = tt
   legs_given (leg ∷ legs) b ms low fits some e h =
       let p = front_parts (leg_market b leg) (markets_of b legs) ms e in
-      let P : List LegMarket → Type 0 = All (λ m. m.ratio * q ≤ size_taken buy m) in
+      let P : List LegMarket → Type 0 = AllByRecursion (λ m. m.ratio * q ≤ size_taken buy m) in
       let sizes = subst P p.4 h in
       (leg_given b leg p.0 low.0 fits.0 some p.2 sizes.0, legs_given legs b p.1 low.1 fits.1 some p.3 sizes.1)
 
   -- a take of a lower series leaves the legs given
-  given_still : (b : Lots) (s : ℕ) (d : Side) (n : ℕ) (legs : List Leg) → All (λ l. s < l.series) legs → Given buy q b legs → Given buy q (taken b s d n) legs
+  given_still : (b : Lots) (s : ℕ) (d : Side) (n : ℕ) (legs : List Leg) → AllByRecursion (λ l. s < l.series) legs → Given buy q b legs → Given buy q (taken b s d n) legs
   given_still b s d n [] up g = tt
   given_still b s d n (leg ∷ legs) up g =
       let above = up.0 in
@@ -146,11 +146,11 @@ module _ (buy : Bool) (q : ℕ) where
       sums : (k m n : ℕ) → k + (m + n) ≡ k + m + n
       sums k m n = omega arith
 
-pub granted : (legs : List Leg) (buy : Bool) (q : ℕ) (b : Lots) (ms : List LegMarket) → Steady legs → markets_of b legs ≡ Some ms → 1 ≤ q → All (λ m. m.ratio * q ≤ size_taken buy m) ms → legs_taken legs buy q b ≡ takes legs buy q b
+pub granted : (legs : List Leg) (buy : Bool) (q : ℕ) (b : Lots) (ms : List LegMarket) → Steady legs → markets_of b legs ≡ Some ms → 1 ≤ q → AllByRecursion (λ m. m.ratio * q ≤ size_taken buy m) ms → legs_taken legs buy q b ≡ takes legs buy q b
 unfolding legs_taken
 granted legs buy q b ms law e some h = all_granted buy q legs b law.rising (legs_given buy q legs b ms law.listed law.ratios some e h)
 
-pub moved_by_takes : (legs : List Leg) (buy : Bool) (q : ℕ) (b : Lots) (ms : List LegMarket) → Steady legs → markets_of b legs ≡ Some ms → 1 ≤ q → All (λ m. m.ratio * q ≤ size_taken buy m) ms → (s : ℕ) (d : Side) → contracts (b s d) ≡ sum (leg_contracts buy q s d) legs + contracts (takes legs buy q b s d)
+pub moved_by_takes : (legs : List Leg) (buy : Bool) (q : ℕ) (b : Lots) (ms : List LegMarket) → Steady legs → markets_of b legs ≡ Some ms → 1 ≤ q → AllByRecursion (λ m. m.ratio * q ≤ size_taken buy m) ms → (s : ℕ) (d : Side) → contracts (b s d) ≡ sum (leg_contracts buy q s d) legs + contracts (takes legs buy q b s d)
 moved_by_takes legs buy q b ms law e some h = all_moved buy q legs b law.rising (legs_given buy q legs b ms law.listed law.ratios some e h)
 
 -- ## What an execution takes

@@ -1,6 +1,6 @@
 -- What is known of the orders of an engine, of a step and of a strategy without one.
 use Rattle.std.proofs.Common.{◌≡◌, ℕ, ◌≤◌, min, Bool, true, false, cond, List, ℤ, ◌≤ℤ◌, Some, MatchBool}
-use Rattle.std.specs.List.{ContainsAt as Has, AllByRecursion as All}
+use Rattle.std.specs.List.{ContainsAt as Has, AllByRecursion}
 use Rattle.ranked.specs.Ranking.{Sorted, Distinct}
 use Rattle.simple.specs.Limits.{last_series}
 use Rattle.simple.specs.Lots.{Lots}
@@ -21,14 +21,14 @@ use Rattle.rules.specs.Laws.{Paired, Legged}
 pub record Ready (os : List Order) : Type 0 where
   pub sorted : Sorted order_ahead os
   pub distinct : Distinct order_number os
-  pub some : All (λ o. 1 ≤ o.quantity) os
-  pub numbered : All (λ o. 1 ≤ o.number) os
+  pub some : AllByRecursion (λ o. 1 ≤ o.quantity) os
+  pub numbered : AllByRecursion (λ o. 1 ≤ o.number) os
 
 -- what the legs of a defined strategy are, by the tests alone
 pub record Steady (legs : List Leg) : Type 0 where
-  pub listed : All (λ l. l.series ≤ last_series) legs
+  pub listed : AllByRecursion (λ l. l.series ≤ last_series) legs
   pub rising : Rising legs
-  pub ratios : All RatioFits legs
+  pub ratios : AllByRecursion RatioFits legs
 
 -- an order of the strategy on that side, among those at rest
 pub record Mine (s : ℕ) (buy : Bool) (os : List Order) (o : Order) : Type 0 where

@@ -1,6 +1,6 @@
 -- What it does to the orders at rest that one has less, or is gone.
 use Rattle.std.proofs.Common.{◌≡◌, ℕ, ◌+◌, ◌-◌, ◌<◌, ◌≤◌, true, cond, eqb, ltb, List, [], ◌∷◌, sym, refl, ap, ◌∙◌, inl, inr, arith}
-use Rattle.std.specs.List.{AllByRecursion as All}
+use Rattle.std.specs.List.{AllByRecursion}
 use Rattle.std.proofs.ByRecursion.{All-weaker}
 use Rattle.std.proofs.lemmas.Bool.{cases_eq, cond-true, cond-false, cond_both, eq-eqb, ne_eqb, eqb-true, eqb-false, ltb-true, ltb-false}
 use Rattle.ranked.specs.Ranking.{Pairwise, Absent}
@@ -38,17 +38,17 @@ module _ (n : ℕ) (P : List Order → List Order → Type 0)
       (λ e. past o os (dropped n os) (eqb-false o.number n e) (dropped_rule os))
 
 -- what holds of each order, and of one with less, holds of each afterwards
-all_reduced : (n q : ℕ) (Q : Order → Type 0) → ((o : Order) → q < o.quantity → Q o → Q (less q o)) → (os : List Order) → All Q os → All Q (reduced n q os)
+all_reduced : (n q : ℕ) (Q : Order → Type 0) → ((o : Order) → q < o.quantity → Q o → Q (less q o)) → (os : List Order) → AllByRecursion Q os → AllByRecursion Q (reduced n q os)
 all_reduced n q Q so os =
-    reduced_rule n q (λ xs ys. All Q xs → All Q ys)
+    reduced_rule n q (λ xs ys. AllByRecursion Q xs → AllByRecursion Q ys)
     (λ _. tt)
     (λ o os _ lt a. (so o lt a.0, a.1))
     (λ o os _ _ a. a.1)
     (λ o os later _ ih a. (a.0, ih a.1))
     os
 
-all_dropped : (n : ℕ) (Q : Order → Type 0) (os : List Order) → All Q os → All Q (dropped n os)
-all_dropped n Q os = dropped_rule n (λ xs ys. All Q xs → All Q ys) (λ _. tt) (λ o os _ a. a.1) (λ o os later _ ih a. (a.0, ih a.1)) os
+all_dropped : (n : ℕ) (Q : Order → Type 0) (os : List Order) → AllByRecursion Q os → AllByRecursion Q (dropped n os)
+all_dropped n Q os = dropped_rule n (λ xs ys. AllByRecursion Q xs → AllByRecursion Q ys) (λ _. tt) (λ o os _ a. a.1) (λ o os later _ ih a. (a.0, ih a.1)) os
 
 -- so do what the orders are to one another
 module _ (n : ℕ) (R : Order → Order → Type 0) where
@@ -102,7 +102,7 @@ pub left_past : (n : ℕ) (o : Order) (os : List Order) → (o.number ≡ n → 
 left_past n o os ne = ap quantity_in (with_past n o os ne)
 
 -- behind the order of a number no other has it
-none_behind : (n : ℕ) (o : Order) (os : List Order) → o.number ≡ n → All (λ y. o.number ≡ y.number → ⊥) os → Absent order_number n os
+none_behind : (n : ℕ) (o : Order) (os : List Order) → o.number ≡ n → AllByRecursion (λ y. o.number ≡ y.number → ⊥) os → Absent order_number n os
 none_behind n o os e = All-weaker (λ y. o.number ≡ y.number → ⊥) (λ y. y.number ≡ n → ⊥) (λ y ne same. ne (e ∙ sym same)) os
 
 -- two lists in which as much is left of an order, behind one that may have its number

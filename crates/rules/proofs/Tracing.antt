@@ -1,6 +1,6 @@
 -- The executions of a call obey the law, and take what they say.
 use Rattle.std.proofs.Common.{◌≡◌, ℕ, ◌+◌, ◌*◌, ◌≤◌, min, Bool, true, false, cond, eqb, List, [], ◌∷◌, ◌++◌, ℤ, ◌≤ℤ◌, Some, MatchBool, sym, refl, ap, ◌∙◌, subst, arith}
-use Rattle.std.specs.List.{ContainsAt as Has, AllByRecursion as All}
+use Rattle.std.specs.List.{ContainsAt as Has, AllByRecursion}
 use Rattle.std.proofs.ByRecursion.{all-has}
 use Rattle.simple.specs.declared.lot.Side.{Side}
 use Rattle.simple.specs.Lots.{Lots, contracts}

@@ -1,7 +1,7 @@
 -- The law over every list of calls, in the words of the subject: the accepted orders of the history, their executions,
 -- their cancellations, and what cancel would answer next.
 use Rattle.std.specs.Prelude.{◌≡◌, ℕ, ◌+◌, ◌*◌, ◌≤◌, Bool, true, false, cond, List, [], ◌∷◌, ◌++◌, length, ℤ, ◌≤ℤ◌, Some, None, fold, ◌==◌, ◌≢◌}
-use Rattle.std.specs.List.{ContainsAt as Has, AllByRecursion as All}
+use Rattle.std.specs.List.{ContainsAt as Has, AllByRecursion}
 use Rattle.simple.specs.declared.lot.Side.{Side}
 use Rattle.simple.specs.Lots.{Lots, Lawful, contracts, same_side}
 use Rattle.simple.specs.Take.{taken}
@@ -137,7 +137,7 @@ pub record Legged (legs : List Leg) (b : Lots) (buy : Bool) (x : Execution) : Ty
   pub free : markets_of b legs ≡ Some markets
   pub price : x.price ≡ net_taken markets buy
   pub recorded : x.legs ≡ prices_taken markets buy
-  pub sizes : All (λ m. m.ratio * x.quantity ≤ size_taken buy m) markets
+  pub sizes : AllByRecursion (λ m. m.ratio * x.quantity ≤ size_taken buy m) markets
 
 -- an execution names a buy, a sell or both, for at least 1; b are the lots just before it
 pub record LawfulExecution (h : List Event) (legs : List Leg) (b : Lots) (x : Execution) : Type 0 where

@@ -1,6 +1,6 @@
 -- What best answers of one side.
 use Rattle.std.specs.Prelude.{◌≡◌, ℕ, ◌≤◌, false, List, [], ◌∷◌, Some, None, filter, Option, nat_eq}
-use Rattle.std.specs.List.{AllByRecursion as All}
+use Rattle.std.specs.List.{AllByRecursion}
 use Rattle.simple.specs.declared.lot.Side.{Side}
 use Rattle.simple.specs.declared.lot.Lot.{Lot}
 use Rattle.simple.specs.declared.lot.Best.{Best}
@@ -31,7 +31,7 @@ best_size (Some b) = b.size
 -- that price, at least one contract and no more than a side holds, and the Priority Customers have a part of it
 pub record Told (d : Side) (ls : List Lot) (b : Best) : Type 0 where
   pub first : (l : Lot) × (rest : List Lot) × (ls ≡ l ∷ rest) × (b.price ≡ l.price)
-  pub best : All (λ l. better d l.price b.price ≡ false) ls
+  pub best : AllByRecursion (λ l. better d l.price b.price ≡ false) ls
   pub size : b.size ≡ contracts (at_price b.price ls)
   pub customer : b.customer ≡ contracts (customers (at_price b.price ls))
   pub least : 1 ≤ b.price

@@ -1,6 +1,6 @@
 -- What a simple book means: for each series and each side a list of lots, the best first.
 use Rattle.std.specs.Prelude.{◌≡◌, ℕ, ◌+◌, ◌<◌, ◌≤◌, Bool, true, false, cond, not, ◌&&◌, ◌||◌, List, [], ◌∷◌, ◌==◌, nat_lt}
-use Rattle.std.specs.List.{AllByRecursion as All}
+use Rattle.std.specs.List.{AllByRecursion}
 use Rattle.simple.specs.declared.lot.Side.{Side}
 use Rattle.simple.specs.declared.lot.Side.TheVariants.{Bid, Offer}
 use Rattle.simple.specs.declared.lot.Lot.{Lot}
@@ -36,7 +36,7 @@ pub record Sound (l : Lot) : Type 0 where
 -- each lot is sound, and precedes every lot behind it
 abbrev pub Ranked : Side → List Lot → Type 0
 Ranked d [] = Unit {0}
-Ranked d (l ∷ ls) = Sound l × All (λ m. precedes d l m ≡ true) ls × Ranked d ls
+Ranked d (l ∷ ls) = Sound l × AllByRecursion (λ m. precedes d l m ≡ true) ls × Ranked d ls
 
 -- how many contracts the lots have
 abbrev pub contracts : List Lot → ℕ

@@ -1,7 +1,7 @@
 -- Which numbers divide all ratios.
 use Rattle.std.proofs.Common.{◌≡◌, ℕ, zero, suc, ◌+◌, ◌-◌, ◌*◌, ◌/◌, ◌%◌, ◌<◌, ◌≤◌, true, false, eqb, List, [], ◌∷◌, length, Decides, refl, ap, ◌∙◌, subst, inl, inr, suc-mul, div-add-mod', zero-mul, arith}
 use native.Mathlib.Nat.{mul-mod_left}
-use Rattle.std.specs.List.{AllByRecursion as All}
+use Rattle.std.specs.List.{AllByRecursion}
 use Rattle.std.proofs.lemmas.Bool.{cases_Bool, both_ways, eqb-true, eq-eqb, or_from}
 use Rattle.std.proofs.lemmas.Bool.Decides.{Decides-below_or}
 use Rattle.std.proofs.ByRecursion.{Decides-by_and}
@@ -37,7 +37,7 @@ divides_one n m = (
   λ d. eq-eqb (m % n) 0 (ap (λ x. x % n) d.1 ∙ mul-mod_left d.0 n),
 )
 
-divides_tells : (n : ℕ) (ls : List Leg) → Decides (divides_all n ls) (All (λ l. Divides n l.ratio) ls)
+divides_tells : (n : ℕ) (ls : List Leg) → Decides (divides_all n ls) (AllByRecursion (λ l. Divides n l.ratio) ls)
 divides_tells n ls =
     Decides-by_and (λ l. eqb (l.ratio % n) 0) (λ l. Divides n l.ratio) (divides_all n) (λ l. divides_one n l.ratio) refl (λ _ _. refl) ls
 
@@ -47,14 +47,14 @@ divisor_within n m zero some e = omega (arith, zero-mul n)
 divisor_within n m (suc k) some e = omega (arith, suc-mul k n)
 
 -- no number above 1 divides all ratios exactly where the test finds none
-pub lowest_if : (ls : List Leg) → 1 ≤ length ls → All RatioFits ls → share_divisor ls ≡ false → (n : ℕ) → 1 < n → All (λ l. Divides n l.ratio) ls → ⊥
+pub lowest_if : (ls : List Leg) → 1 ≤ length ls → AllByRecursion RatioFits ls → share_divisor ls ≡ false → (n : ℕ) → 1 < n → AllByRecursion (λ l. Divides n l.ratio) ls → ⊥
 lowest_if [] some fits none n above all = omega arith
 lowest_if (l ∷ ls) some fits none n above all =
     let within = divisor_within n l.ratio all.0.0 fits.0.0 all.0.1 in
     let most = fits.0.1 in
     both_ways (share_divisor (l ∷ ls)) none (divisor_found n (l ∷ ls) (omega arith) (omega arith) ((divides_tells n (l ∷ ls)).1 all))
 
-pub lowest_only : (ls : List Leg) → ((n : ℕ) → 1 < n → All (λ l. Divides n l.ratio) ls → ⊥) → share_divisor ls ≡ false
+pub lowest_only : (ls : List Leg) → ((n : ℕ) → 1 < n → AllByRecursion (λ l. Divides n l.ratio) ls → ⊥) → share_divisor ls ≡ false
 lowest_only ls lowest =
     elim (cases_Bool (share_divisor ls)) [
       | inl e ↦ let found = (one_tells (highest_ratio - 1) ls).0 e in absurd (lowest (suc (suc found.0)) (omega arith) ((divides_tells (suc (suc found.0)) ls).0 found.2))

@@ -1,6 +1,6 @@
 -- The tests are passed exactly by legs that have the properties.
 use Rattle.std.proofs.Common.{◌≡◌, ℕ, ◌+◌, ◌*◌, ◌<◌, ◌≤◌, min, max, true, not, ◌&&◌, leb, List, [], ◌∷◌, length, Decides, refl, arith}
-use Rattle.std.specs.List.{ContainsAt as Has, AllByRecursion as All}
+use Rattle.std.specs.List.{ContainsAt as Has, AllByRecursion}
 use Rattle.std.proofs.ByRecursion.{All-weaker, all-has, all_has_itself, Decides-by_and}
 use Rattle.std.proofs.lemmas.Int.{clamps}
 use Rattle.std.proofs.lemmas.Bool.{leb-true, le-leb, and_parts, and_from, not-true, not_from_false}
@@ -12,7 +12,7 @@ use Rattle.strategies.specs.Lawful.{Rising, RatioFits, LawfulLegs}
 use Rattle.strategies.proofs.Divisors.{lowest_if, lowest_only}
 
 -- the series of a list that starts at s or above
-pub rises_if : (s : ℕ) (ls : List Leg) → rising_from s ls ≡ true → All (λ l. s ≤ l.series) ls × All (λ l. l.series ≤ last_series) ls × Rising ls
+pub rises_if : (s : ℕ) (ls : List Leg) → rising_from s ls ≡ true → AllByRecursion (λ l. s ≤ l.series) ls × AllByRecursion (λ l. l.series ≤ last_series) ls × Rising ls
 rises_if s [] h = (tt, tt, tt)
 rises_if s (l ∷ ls) h =
     let both = and_parts (leb s l.series && leb l.series last_series) (rising_from (l.series + 1) ls) h in
@@ -24,14 +24,14 @@ rises_if s (l ∷ ls) h =
       (All-weaker (λ m. l.series + 1 ≤ m.series) (λ m. l.series < m.series) (λ m k. omega arith) ls rest.0, rest.2),
     )
 
-rises_only : (s : ℕ) (ls : List Leg) → All (λ l. s ≤ l.series) ls → All (λ l. l.series ≤ last_series) ls → Rising ls → rising_from s ls ≡ true
+rises_only : (s : ℕ) (ls : List Leg) → AllByRecursion (λ l. s ≤ l.series) ls → AllByRecursion (λ l. l.series ≤ last_series) ls → Rising ls → rising_from s ls ≡ true
 rises_only s [] above listed rising = refl
 rises_only s (l ∷ ls) above listed rising =
     and_from (leb s l.series && leb l.series last_series) (rising_from (l.series + 1) ls)
     (and_from (leb s l.series) (leb l.series last_series) (le-leb s l.series above.0) (le-leb l.series last_series listed.0))
     (rises_only (l.series + 1) ls (All-weaker (λ m. l.series < m.series) (λ m. l.series + 1 ≤ m.series) (λ m k. omega arith) ls rising.0) listed.1 rising.1)
 
-from_zero : (ls : List Leg) → All (λ l. 0 ≤ l.series) ls
+from_zero : (ls : List Leg) → AllByRecursion (λ l. 0 ≤ l.series) ls
 from_zero [] = tt
 from_zero (l ∷ ls) = (omega arith, from_zero ls)
 
@@ -42,25 +42,25 @@ fit_tells l = (
   λ h. and_from (leb 1 l.ratio) (leb l.ratio highest_ratio) (le-leb 1 l.ratio h.0) (le-leb l.ratio highest_ratio h.1),
 )
 
-pub fits_tell : (ls : List Leg) → Decides (ratios_fit ls) (All RatioFits ls)
+pub fits_tell : (ls : List Leg) → Decides (ratios_fit ls) (AllByRecursion RatioFits ls)
 fits_tell ls = Decides-by_and ratio_fits RatioFits ratios_fit fit_tells refl (λ _ _. refl) ls
 
 -- the largest ratio is the least number that none exceeds, and the smallest the greatest that exceeds none
-largest_above : (ls : List Leg) → All (λ a. a.ratio ≤ largest ls) ls
+largest_above : (ls : List Leg) → AllByRecursion (λ a. a.ratio ≤ largest ls) ls
 largest_above [] = tt
 largest_above (l ∷ ls) =
     (omega (arith, clamps), All-weaker (λ a. a.ratio ≤ largest ls) (λ a. a.ratio ≤ max l.ratio (largest ls)) (λ a h. omega (arith, clamps)) ls (largest_above ls))
 
-largest_below : (n : ℕ) (ls : List Leg) → All (λ a. a.ratio ≤ n) ls → largest ls ≤ n
+largest_below : (n : ℕ) (ls : List Leg) → AllByRecursion (λ a. a.ratio ≤ n) ls → largest ls ≤ n
 largest_below n [] all = omega arith
 largest_below n (l ∷ ls) all = let own = all.0 in let rest = largest_below n ls all.1 in omega (arith, clamps)
 
-smallest_below : (ls : List Leg) → All (λ b. smallest ls ≤ b.ratio) ls
+smallest_below : (ls : List Leg) → AllByRecursion (λ b. smallest ls ≤ b.ratio) ls
 smallest_below [] = tt
 smallest_below (l ∷ ls) =
     (omega (arith, clamps), All-weaker (λ b. smallest ls ≤ b.ratio) (λ b. min l.ratio (smallest ls) ≤ b.ratio) (λ b h. omega (arith, clamps)) ls (smallest_below ls))
 
-smallest_above : (n : ℕ) (ls : List Leg) → n ≤ ratio_spread * highest_ratio → All (λ b. n ≤ ratio_spread * b.ratio) ls → n ≤ ratio_spread * smallest ls
+smallest_above : (n : ℕ) (ls : List Leg) → n ≤ ratio_spread * highest_ratio → AllByRecursion (λ b. n ≤ ratio_spread * b.ratio) ls → n ≤ ratio_spread * smallest ls
 smallest_above n [] most all = most
 smallest_above n (l ∷ ls) most all = let own = all.0 in let rest = smallest_above n ls most all.1 in omega (arith, clamps)
 
@@ -72,7 +72,7 @@ near_if ls h a b at_a at_b =
     let low = all-has (λ m. smallest ls ≤ m.ratio) ls b (smallest_below ls) at_b in
     omega arith
 
-near_only : (ls : List Leg) → All RatioFits ls → ((a b : Leg) → Has ls a → Has ls b → a.ratio ≤ ratio_spread * b.ratio) → ratios_near ls ≡ true
+near_only : (ls : List Leg) → AllByRecursion RatioFits ls → ((a b : Leg) → Has ls a → Has ls b → a.ratio ≤ ratio_spread * b.ratio) → ratios_near ls ≡ true
 near_only ls fits near =
     le-leb (largest ls) (ratio_spread * smallest ls)
     (largest_below (ratio_spread * smallest ls) ls

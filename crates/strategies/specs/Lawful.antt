@@ -1,6 +1,6 @@
 -- The properties that every strategy has, in the words of the rule.
 use Rattle.std.specs.Prelude.{◌≡◌, ℕ, ◌*◌, ◌<◌, ◌≤◌, List, [], ◌∷◌, length, get_or, slice_index_or}
-use Rattle.std.specs.List.{ContainsAt as Has, AllByRecursion as All}
+use Rattle.std.specs.List.{ContainsAt as Has, AllByRecursion}
 use Rattle.simple.specs.Limits.{last_series}
 use Rattle.strategies.specs.declared.leg.Leg.{Leg}
 use Rattle.strategies.specs.Limits.{fewest_legs, most_legs, highest_ratio, ratio_spread}
@@ -12,7 +12,7 @@ Exactly P Q = (P → Q) × (Q → P)
 -- the series of each leg is below that of every leg behind it
 abbrev pub Rising : List Leg → Type 0
 Rising [] = Unit {0}
-Rising (l ∷ ls) = All (λ m. l.series < m.series) ls × Rising ls
+Rising (l ∷ ls) = AllByRecursion (λ m. l.series < m.series) ls × Rising ls
 
 -- a ratio that a leg may have
 abbrev pub RatioFits : Leg → Type 0
@@ -27,15 +27,15 @@ pub record LawfulLegs (ls : List Leg) : Type 0 where
   pub fewest : fewest_legs ≤ length ls
   pub most : length ls ≤ most_legs
   -- each series is at most 1,023
-  pub listed : All (λ l. l.series ≤ last_series) ls
+  pub listed : AllByRecursion (λ l. l.series ≤ last_series) ls
   -- series rise strictly from leg to leg
   pub rising : Rising ls
   -- each ratio is 1 to 8
-  pub ratios : All RatioFits ls
+  pub ratios : AllByRecursion RatioFits ls
   -- no ratio exceeds three times another, so neither does the largest the smallest
   pub near : (a b : Leg) → Has ls a → Has ls b → a.ratio ≤ ratio_spread * b.ratio
   -- no number above 1 divides all ratios
-  pub lowest : (n : ℕ) → 1 < n → All (λ l. Divides n l.ratio) ls → ⊥
+  pub lowest : (n : ℕ) → 1 < n → AllByRecursion (λ l. Divides n l.ratio) ls → ⊥
 
 -- what the properties say of the legs by their places
 pub record PlacedLegs (ls : List Leg) : Type 0 where

@@ -1,6 +1,6 @@
 -- The steps of the loops that show a word and a line, and the words of a line that was shown.
 use Rattle.std.proofs.Common.{◌≡◌, ℕ, ◌+◌, ◌<◌, false, ◌&&◌, leb, List, [], ◌∷◌, ◌++◌, map, length, get_or, take, sym, refl, ap, ◌∙◌, append_assoc, append-nil, arith, Bor}
-use Rattle.std.specs.List.{flat_map, AllByRecursion as All}
+use Rattle.std.specs.List.{flat_map, AllByRecursion}
 use Rattle.std.proofs.lemmas.List.{map_more, flat_map_more, length-map, length-take-le}
 use Rattle.std.proofs.lemmas.Bool.{cond_both, cond-false}
 use Rattle.text.specs.Printable.{printable_byte, printable_word, spaced, printable_line}
@@ -43,18 +43,18 @@ module _ (ws : List (Bor (List ℕ))) (i : ℕ) (d : Bor (List ℕ)) (l : i < le
 solid : (b : ℕ) → separates b ≡ false → separates (printable_byte b) ≡ false
 solid b e = cond_both (leb 32 b && leb b 126) b 63 (λ x. separates x ≡ false) (λ _. e) (λ _. refl)
 
-goes_on : (begun w rest : List ℕ) → All (λ b. separates b ≡ false) w → words_after begun (printable_word w ++ rest) ≡ words_after (begun ++ printable_word w) rest
+goes_on : (begun w rest : List ℕ) → AllByRecursion (λ b. separates b ≡ false) w → words_after begun (printable_word w ++ rest) ≡ words_after (begun ++ printable_word w) rest
 goes_on begun [] rest h = ap (λ bs. words_after bs rest) (sym (append-nil begun))
 goes_on begun (b ∷ bs) rest h =
     cond-false (separates (printable_byte b)) _ _ (solid b h.0) ∙ goes_on (begun ++ printable_byte b ∷ []) bs rest h.1 ∙ ap (λ x. words_after x rest) (append_assoc begun (printable_byte b ∷ []) (printable_word bs))
 
-again : (w : List ℕ) (ws : List (List ℕ)) → Word w → All Word ws → words_after (printable_word w) (flat_map spaced ws) ≡ map printable_word (w ∷ ws)
+again : (w : List ℕ) (ws : List (List ℕ)) → Word w → AllByRecursion Word ws → words_after (printable_word w) (flat_map spaced ws) ≡ map printable_word (w ∷ ws)
 again w [] h hs = ended_some (printable_word w) (omega (arith, h.0, length-map w printable_byte))
 again w (v ∷ vs) h hs =
     ap (λ ws. ws ++ words_after [] (printable_word v ++ flat_map spaced vs)) (ended_some (printable_word w) (omega (arith, h.0, length-map w printable_byte))) ∙ ap (λ ws. printable_word w ∷ ws) (goes_on [] v (flat_map spaced vs) hs.0.1 ∙ again v vs hs.0 hs.1)
 
 -- a line that is shown has the same words, as they are shown
-pub words_again : (ws : List (List ℕ)) → All Word ws → words_of (printable_line ws) ≡ map printable_word ws
+pub words_again : (ws : List (List ℕ)) → AllByRecursion Word ws → words_of (printable_line ws) ≡ map printable_word ws
 unfolding words_of printable_line
 words_again [] h = refl
 words_again (w ∷ ws) h = goes_on [] w (flat_map spaced ws) h.0.1 ∙ again w ws h.0 h.1

@@ -1,6 +1,6 @@
 -- The steps of the loop that splits a line, and that the words it finds are the line's longest runs.
 use Rattle.std.proofs.Common.{◌≡◌, ℕ, ◌+◌, ◌-◌, ◌<◌, ◌≤◌, true, false, cond, List, [], ◌∷◌, ◌++◌, length, get_or, take, drop, sym, refl, ap, ◌∙◌, subst, append_assoc, arith, Bor}
-use Rattle.std.specs.List.{AllByRecursion as All}
+use Rattle.std.specs.List.{AllByRecursion}
 use Rattle.std.proofs.ByRecursion.{All-push}
 use Rattle.std.proofs.lemmas.List.{at_drop_more, at_drop_all, take_more, get_or-drop, length-drop, map_push}
 use Rattle.std.proofs.lemmas.Bool.{cond_both, cond-true, cond-false}
@@ -64,11 +64,11 @@ skip : (b : ℕ) (bs : List ℕ) (ws : List (List ℕ)) → separates b ≡ true
 skip b bs [] e h = (e, h)
 skip b bs (w ∷ ws) e h = (b ∷ h.0, h.1, ap (λ l. b ∷ l) h.2, (e, h.3), h.4, h.5, h.6)
 
-at_separator : (begun : List ℕ) (b : ℕ) (bs : List ℕ) (ws : List (List ℕ)) → All (λ x. separates x ≡ false) begun → separates b ≡ true → Words bs ws → Words (begun ++ b ∷ bs) (ended begun ++ ws)
+at_separator : (begun : List ℕ) (b : ℕ) (bs : List ℕ) (ws : List (List ℕ)) → AllByRecursion (λ x. separates x ≡ false) begun → separates b ≡ true → Words bs ws → Words (begun ++ b ∷ bs) (ended begun ++ ws)
 at_separator [] b bs ws o e h = skip b bs ws e h
 at_separator (x ∷ xs) b bs ws o e h = ([], b ∷ bs, refl, tt, (omega arith, o), e, skip b bs ws e h)
 
-runs_after : (begun bs : List ℕ) → All (λ x. separates x ≡ false) begun → Words (begun ++ bs) (words_after begun bs)
+runs_after : (begun bs : List ℕ) → AllByRecursion (λ x. separates x ≡ false) begun → Words (begun ++ bs) (words_after begun bs)
 runs_after [] [] o = tt
 runs_after (x ∷ xs) [] o = ([], [], refl, tt, (omega arith, o), tt, tt)
 runs_after begun (b ∷ bs) o =

@@ -2,7 +2,7 @@
 use Rattle.std.specs.Borrow.{Bor}
 use Rattle.std.specs.Prelude.{◌≡◌, ℕ, ◌<◌, Bool, true, false, cond, ◌||◌, List, [], ◌∷◌, ◌++◌, map, length, Some, None, Option, ◌==◌, ◌≢◌}
 use Rattle.std.specs.Option.{option_map}
-use Rattle.std.specs.List.{AllByRecursion as All}
+use Rattle.std.specs.List.{AllByRecursion}
 
 -- words are parted by spaces, tabs and carriage returns
 abbrev pub separates : ℕ → Bool
@@ -28,10 +28,10 @@ lent ws = map (λ w. w.now) ws
 
 -- a gap has only separators, and a word has none, and some byte
 abbrev pub Gap : List ℕ → Type 0
-Gap bs = All (λ b. separates b ≡ true) bs
+Gap bs = AllByRecursion (λ b. separates b ≡ true) bs
 
 abbrev pub Word : List ℕ → Type 0
-Word bs = (0 < length bs) × All (λ b. separates b ≡ false) bs
+Word bs = (0 < length bs) × AllByRecursion (λ b. separates b ≡ false) bs
 
 -- the line ends here, or a separator comes
 abbrev pub AtEnd : List ℕ → Type 0
@@ -50,7 +50,7 @@ parts_at mark (b ∷ bs) = cond (b == mark) (Some ([], bs)) (option_map (λ p. (
 
 -- no byte is the mark
 abbrev pub Without : ℕ → List ℕ → Type 0
-Without mark bs = All (λ b. b ≢ mark) bs
+Without mark bs = AllByRecursion (λ b. b ≢ mark) bs
 
 -- the two parts that are lent
 abbrev pub lent_parts : Option (Bor (List ℕ) × Bor (List ℕ)) → Option (List ℕ × List ℕ)

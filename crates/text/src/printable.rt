@@ -1,6 +1,6 @@
 // The words of a line, shown in printable ASCII.
 ghost use Rattle.std.specs.Prelude.{◌≡◌, ◌<◌, ◌++◌, map, is_ok, IfOk, if◌then◌else◌, string_bytes};
-ghost use Rattle.std.specs.List.{AllByRecursion as All};
+ghost use Rattle.std.specs.List.{AllByRecursion};
 ghost use Rattle.text.specs.Printable.{printable_byte, printable_word, printable_line};
 ghost use Rattle.text.specs.Words.{lent, Word, words_of};
 
@@ -31,7 +31,7 @@ pub(crate) fn push_printable(out: &mut String, word: &[u8]) -> Result<(), AllocE
 // The words of a line as they are shown, with one space between them. Read again it has those words.
 pub fn printable_line(heap: Global, words: &[&[u8]]) -> Result<String, AllocError>
     ensures shown { IfOk result (λ line. string_bytes line ≡ printable_line (lent words.now)) }
-    ensures read_again { IfOk result (λ line. All Word (lent words.now) → words_of (string_bytes line) ≡ map printable_word (lent words.now)) }
+    ensures read_again { IfOk result (λ line. AllByRecursion Word (lent words.now) → words_of (string_bytes line) ≡ map printable_word (lent words.now)) }
 {
     let mut line = String::new(heap);
     for (i, word) in words.iter().enumerate() {
