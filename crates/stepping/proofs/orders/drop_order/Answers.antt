@@ -10,8 +10,8 @@ returns-in-Some c = record {
   room = c.remove.ensures.room;
 }
 
-pub returns-in-default : goal.returns-in-default
-returns-in-default c = record {
-  items = dropped_none c.args.number (items c.args.orders.now) c.in-default.ensures.answer;
+pub returns-in_default : goal.returns-in_default
+returns-in_default c = record {
+  items = dropped_none c.args.number (items c.args.orders.now) c.in_default.ensures.answer;
   room = refl;
 }

@@ -6,8 +6,8 @@ use Rattle.rules.specs.Orders.{less}
 use Rattle.stepping.proofs.Places.{reduced_none, reduced_less, reduced_out}
 use Rattle.stepping.proofs.orders.reduce.Goals as goal
 
-pub returns-in-default : goal.returns-in-default
-returns-in-default c = record { items = reduced_none c.args.number (items c.args.orders.now) c.in-default.ensures.answer c.args.quantity; room = refl }
+pub returns-in_default : goal.returns-in_default
+returns-in_default c = record { items = reduced_none c.args.number (items c.args.orders.now) c.in_default.ensures.answer c.args.quantity; room = refl }
 
 pub returns-then-quantity-order : goal.returns-then-quantity-order
 returns-then-quantity-order c =

@@ -18,20 +18,20 @@ loop-written-preserved g c =
     let lots = g.B.SimpleBook.lots in
     let legs = strategy_legs c.args.strategy.now in
     let x = told c.in-Some.next in (
-      going_more legs c.args.number _ c.args.out.now c.loop-written.out c.loop-written.written (trading (items c.loop-written.orders) (lots c.loop-written.book)) c.loop-written.invariant.0 x c.execution-of.result (trading (items c.settle.new.orders) (lots c.take.new.book)) c.in-Some.ensures.answer c.execution-of.ensures c.loop-written-test.true (after_so legs x (items c.loop-written.orders) (items c.settle.new.orders) (lots c.loop-written.book) (lots c.next-step.new.book) (lots c.take.new.book) c.settle.ensures.items c.next-step.ensures.lots c.take.ensures.lots),
+      going_more legs c.args.number _ c.args.out.now c.loop-written.out c.loop-written.written (trading (items c.loop-written.orders) (lots c.loop-written.book)) c.loop-written.invariant.0 x c.execution_of.result (trading (items c.settle.new.orders) (lots c.take.new.book)) c.in-Some.ensures.answer c.execution_of.ensures c.loop-written-test.true (after_so legs x (items c.loop-written.orders) (items c.settle.new.orders) (lots c.loop-written.book) (lots c.next_step.new.book) (lots c.take.new.book) c.settle.ensures.items c.next_step.ensures.lots c.take.ensures.lots),
       c.settle.ensures.room ∙ c.loop-written.invariant.1,
-      c.take.ensures.frame ∙ c.next-step.ensures.frame ∙ c.loop-written.invariant.2,
+      c.take.ensures.frame ∙ c.next_step.ensures.frame ∙ c.loop-written.invariant.2,
     )
 
-pub returns-in-default : goal.returns-in-default
-returns-in-default g c =
+pub returns-in_default : goal.returns-in_default
+returns-in_default g c =
     let lots = g.B.SimpleBook.lots in
     let legs = strategy_legs c.args.strategy.now in
     let os = items c.loop-written.orders in
     record {
-      equation = going_all legs c.args.number _ c.args.out.now c.loop-written.out c.loop-written.written (trading os (lots c.loop-written.book)) c.loop-written.invariant.0 (lots c.next-step.new.book) c.next-step.ensures.lots c.in-default.ensures.answer c.loop-written-test.true;
+      equation = going_all legs c.args.number _ c.args.out.now c.loop-written.out c.loop-written.written (trading os (lots c.loop-written.book)) c.loop-written.invariant.0 (lots c.next_step.new.book) c.next_step.ensures.lots c.in_default.ensures.answer c.loop-written-test.true;
       room = c.loop-written.invariant.1;
-      frame = c.next-step.ensures.frame ∙ c.loop-written.invariant.2;
+      frame = c.next_step.ensures.frame ∙ c.loop-written.invariant.2;
     }
 
 pub returns : goal.returns
