@@ -6,15 +6,15 @@ use Rattle.engine.proofs.table.same_legs.Goals as goal
 pub returns-then-a-b : goal.returns-then-a-b
 returns-then-a-b c = same_never c.args.a.now c.args.b.now c.if-a-b.true
 
-pub returns-then-not-same-leg : goal.returns-then-not-same-leg
-returns-then-not-same-leg c =
+pub returns-then-not-same_leg : goal.returns-then-not-same_leg
+returns-then-not-same_leg c =
     let lt : c.loop-i.i < length c.args.b.now = omega arith in
-    same_not c.args.a.now c.args.b.now c.loop-i.i c.loop-i.invariant c.loop-i-test.true lt c.if-not-same-leg.ensures
+    same_not c.args.a.now c.args.b.now c.loop-i.i c.loop-i.invariant c.loop-i-test.true lt c.if-not-same_leg.ensures
 
 pub loop-i-preserved : goal.loop-i-preserved
 loop-i-preserved c =
     let lt : c.loop-i.i < length c.args.b.now = omega arith in
-    same_more c.args.a.now c.args.b.now c.loop-i.i c.loop-i.invariant c.loop-i-test.true lt c.if-not-same-leg.ensures
+    same_more c.args.a.now c.args.b.now c.loop-i.i c.loop-i.invariant c.loop-i-test.true lt c.if-not-same_leg.ensures
 
 pub returns : goal.returns
 returns c =

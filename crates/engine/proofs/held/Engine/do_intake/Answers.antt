@@ -8,45 +8,45 @@ use Rattle.engine.specs.Messages.{answer_asked}
 use Rattle.engine.proofs.Asking.{narrow, unready_all, unread_so, asked_so, answered_so}
 use Rattle.engine.proofs.held.Engine.do_intake.Goals as goal
 
-pub returns-then-not-is-ready : goal.returns-then-not-is-ready
-returns-then-not-is-ready g c =
+pub returns-then-not-is_ready : goal.returns-then-not-is_ready
+returns-then-not-is_ready g c =
     let s = model c.args.self.now in
     let b = g.B.SimpleBook.lots c.args.book.now in
     record {
-      equation = unready_all s (call_of c.args.message.now) b (length c.args.executions.now) c.if-not-is-ready.ensures ∙ ap (refuse s b) (sym c.at.ensures);
+      equation = unready_all s (call_of c.args.message.now) b (length c.args.executions.now) c.if-not-is_ready.ensures ∙ ap (refuse s b) (sym c.at.ensures);
       list = refl;
       frame = refl;
     }
 
-pub returns-in-err-received : goal.returns-in-err-received
-returns-in-err-received g c =
-    let p = err_from_is_err_and c.from-residual.result c.from-residual.ensures.1 in
+pub returns-in_err-received : goal.returns-in_err-received
+returns-in_err-received g c =
+    let p = err_from_is_err_and c.from_residual.result c.from_residual.ensures.1 in
     let s = model c.args.self.now in
     let b = g.B.SimpleBook.lots c.args.book.now in
-    let fault = c.in-err-received.field-0.0 in
-    let answer : answer_intake c.from-residual.result ≡ unread fault = ap answer_intake (p.1 ∙ ap Err p.2) in
+    let fault = c.in_err-received.field-0.0 in
+    let answer : answer_intake c.from_residual.result ≡ unread fault = ap answer_intake (p.1 ∙ ap Err p.2) in
     record {
-      equation = unread_so s c.args.message.now b (length c.args.executions.now) fault c.if-not-is-ready.ensures c.in-err-received.ensures.answer ∙ ap (λ a. record { answer = a; executions = take (records_told a) c.args.executions.now; after = b; next = s }) (sym answer);
+      equation = unread_so s c.args.message.now b (length c.args.executions.now) fault c.if-not-is_ready.ensures c.in_err-received.ensures.answer ∙ ap (λ a. record { answer = a; executions = take (records_told a) c.args.executions.now; after = b; next = s }) (sym answer);
       list = ap (λ a. written_over (take (records_told a) c.args.executions.now) c.args.executions.now) (sym answer);
       frame = refl;
     }
 
 pub act-requires : goal.act-requires
-act-requires g c = narrow c.args.message.now c.in-ok-received.received.edition c.in-ok-received.received.message c.in-ok-received.ensures.said.1
+act-requires g c = narrow c.args.message.now c.in_ok-received.received.edition c.in_ok-received.received.message c.in_ok-received.ensures.said.1
 
-pub returns-in-err-done : goal.returns-in-err-done
-returns-in-err-done g c =
-    let p = err_from_is_err_and c.from-residual-in-err-done.result c.from-residual-in-err-done.ensures.1 in
+pub returns-in_err-done : goal.returns-in_err-done
+returns-in_err-done g c =
+    let p = err_from_is_err_and c.from_residual-in_err-done.result c.from_residual-in_err-done.ensures.1 in
     let s = model c.args.self.now in
     let b = g.B.SimpleBook.lots c.args.book.now in
     let k = length c.args.executions.now in
     let out = c.act.new.executions in
-    let answer : answer_intake c.from-residual-in-err-done.result ≡ answer_asked (Err c.in-err-done.field-0.0) = ap answer_intake (p.1 ∙ ap Err p.2) in
+    let answer : answer_intake c.from_residual-in_err-done.result ≡ answer_asked (Err c.in_err-done.field-0.0) = ap answer_intake (p.1 ∙ ap Err p.2) in
     let seen : Answer → Did = λ a. record { answer = a; executions = take (records_told a) out; after = g.B.SimpleBook.lots c.act.new.book; next = model c.act.new.self } in
     record {
-      equation = ap (λ call. did s call b k) (asked_so c.args.message.now c.in-ok-received.received c.in-ok-received.ensures.answer) ∙ c.in-err-done.ensures.equation ∙ ap seen (sym answer);
-      list = c.in-err-done.ensures.list ∙ ap (λ a. written_over (take (records_told a) out) c.args.executions.now) (sym answer);
-      frame = c.in-err-done.ensures.frame;
+      equation = ap (λ call. did s call b k) (asked_so c.args.message.now c.in_ok-received.received c.in_ok-received.ensures.answer) ∙ c.in_err-done.ensures.equation ∙ ap seen (sym answer);
+      list = c.in_err-done.ensures.list ∙ ap (λ a. written_over (take (records_told a) out) c.args.executions.now) (sym answer);
+      frame = c.in_err-done.ensures.frame;
     }
 
 pub returns : goal.returns
@@ -55,10 +55,10 @@ returns g c =
     let b = g.B.SimpleBook.lots c.args.book.now in
     let k = length c.args.executions.now in
     let out = c.act.new.executions in
-    let answer = answered_so c.in-ok-done.done in
+    let answer = answered_so c.in_ok-done.done in
     let seen : Answer → Did = λ a. record { answer = a; executions = take (records_told a) out; after = g.B.SimpleBook.lots c.act.new.book; next = model c.act.new.self } in
     record {
-      equation = ap (λ call. did s call b k) (asked_so c.args.message.now c.in-ok-received.received c.in-ok-received.ensures.answer) ∙ c.in-ok-done.ensures.equation ∙ ap seen answer;
-      list = c.in-ok-done.ensures.list ∙ ap (λ a. written_over (take (records_told a) out) c.args.executions.now) answer;
-      frame = c.in-ok-done.ensures.frame;
+      equation = ap (λ call. did s call b k) (asked_so c.args.message.now c.in_ok-received.received c.in_ok-received.ensures.answer) ∙ c.in_ok-done.ensures.equation ∙ ap seen answer;
+      list = c.in_ok-done.ensures.list ∙ ap (λ a. written_over (take (records_told a) out) c.args.executions.now) answer;
+      frame = c.in_ok-done.ensures.frame;
     }

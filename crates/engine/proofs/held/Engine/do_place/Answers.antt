@@ -23,13 +23,13 @@ returns g c =
     let o = c.args.order in
     let b = lots c.args.book.now in
     let before = c.args.executions.now in
-    let after = c.place-with-done.new.executions in
+    let after = c.place_with-done.new.executions in
     let legs = strategy_legs c.in-Some-strategy.legs in
-    let done = c.place-with-done.ensures.equation in
-    let passed = accepted_so s o c.in-default.ensures in
+    let done = c.place_with-done.ensures.equation in
+    let passed = accepted_so s o c.in_default.ensures in
     let into = items c.insert.new.self in
     record {
-      equation = placed_so s o b (length before) legs _ into before after (items c.place-with-done.new.orders) (lots c.place-with-done.new.book) c.place-with-done.result c.in-default.ensures c.in-Some-strategy.ensures (ap (λ n. eqb n 512) (c.place-with-done.ensures.room ∙ c.insert.ensures.room)) (entered_so s.orders into c.entered.result (entered (e.accepted + 1) o) (room e.orders) c.insert.result passed.is_ready passed.room c.insert.ensures.answer c.insert.ensures.items c.entered.ensures) done;
-      list = written_list (steps legs o.strategy (length before) (trading into b)).executions before after c.place-with-done.result.records done.list done.records;
-      frame = c.place-with-done.ensures.frame;
+      equation = placed_so s o b (length before) legs _ into before after (items c.place_with-done.new.orders) (lots c.place_with-done.new.book) c.place_with-done.result c.in_default.ensures c.in-Some-strategy.ensures (ap (λ n. eqb n 512) (c.place_with-done.ensures.room ∙ c.insert.ensures.room)) (entered_so s.orders into c.entered.result (entered (e.accepted + 1) o) (room e.orders) c.insert.result passed.is_ready passed.room c.insert.ensures.answer c.insert.ensures.items c.entered.ensures) done;
+      list = written_list (steps legs o.strategy (length before) (trading into b)).executions before after c.place_with-done.result.records done.list done.records;
+      frame = c.place_with-done.ensures.frame;
     }

@@ -3,8 +3,8 @@ use Rattle.engine.proofs.held.Engine.intake.Goals as goal
 
 pub returns : goal.returns
 returns g c = record {
-  equation = c.do-intake.ensures.equation;
-  runs = theorem _ _ _ (g.B.SimpleBook.lawful c.args.book.now) c.do-intake.ensures.equation;
-  list = c.do-intake.ensures.list;
-  frame = c.do-intake.ensures.frame;
+  equation = c.do_intake.ensures.equation;
+  runs = theorem _ _ _ (g.B.SimpleBook.lawful c.args.book.now) c.do_intake.ensures.equation;
+  list = c.do_intake.ensures.list;
+  frame = c.do_intake.ensures.frame;
 }

@@ -10,17 +10,17 @@ use Rattle.engine.proofs.table.StrategyTable.stands.Goals as goal
 told : (r : Bool) (legs legs' : List Leg) (rows rows' : List StrategyRow) → legs ≡ legs' → rows ≡ rows' → r ≡ stands_among legs rows → r ≡ stands_among legs' rows'
 told r legs legs' rows rows' l k e = e ∙ ap (λ legs. stands_among legs rows) l ∙ ap (stands_among legs') k
 
-pub returns-then-same-legs : goal.returns-then-same-legs
-returns-then-same-legs c =
-    let legs = c.legs-of-legs.result.now in
-    told true legs _ c.defined-rows.result.now _ c.legs-of-legs.ensures c.defined-rows.ensures.value (stands_here legs c.defined-rows.result.now c.loop-other.other-index c.loop-other.invariant _ c.loop-other-test.true (c.if-same-legs.ensures ∙ ap (λ xs. same_legs xs legs) c.legs-of.ensures))
+pub returns-then-same_legs : goal.returns-then-same_legs
+returns-then-same_legs c =
+    let legs = c.legs_of-legs.result.now in
+    told true legs _ c.defined-rows.result.now _ c.legs_of-legs.ensures c.defined-rows.ensures.value (stands_here legs c.defined-rows.result.now c.loop-other.other-index c.loop-other.invariant _ c.loop-other-test.true (c.if-same_legs.ensures ∙ ap (λ xs. same_legs xs legs) c.legs_of.ensures))
 
 pub loop-other-preserved : goal.loop-other-preserved
 loop-other-preserved c =
-    let legs = c.legs-of-legs.result.now in
-    stands_more legs c.defined-rows.result.now c.loop-other.other-index c.loop-other.invariant _ c.loop-other-test.true (c.if-same-legs.ensures ∙ ap (λ xs. same_legs xs legs) c.legs-of.ensures)
+    let legs = c.legs_of-legs.result.now in
+    stands_more legs c.defined-rows.result.now c.loop-other.other-index c.loop-other.invariant _ c.loop-other-test.true (c.if-same_legs.ensures ∙ ap (λ xs. same_legs xs legs) c.legs_of.ensures)
 
 pub returns : goal.returns
 returns c =
-    let legs = c.legs-of-legs.result.now in
-    told false legs _ c.defined-rows.result.now _ c.legs-of-legs.ensures c.defined-rows.ensures.value (stands_none legs c.defined-rows.result.now c.loop-other.other-index c.loop-other.invariant c.loop-other-test.false)
+    let legs = c.legs_of-legs.result.now in
+    told false legs _ c.defined-rows.result.now _ c.legs_of-legs.ensures c.defined-rows.ensures.value (stands_none legs c.defined-rows.result.now c.loop-other.other-index c.loop-other.invariant c.loop-other-test.false)

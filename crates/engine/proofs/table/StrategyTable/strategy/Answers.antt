@@ -6,11 +6,11 @@ use Rattle.engine.specs.Table.{rows_of}
 use Rattle.engine.proofs.Tables.{strategy_none, strategy_some}
 use Rattle.engine.proofs.table.StrategyTable.strategy.Goals as goal
 
-pub returns-in-err-row : goal.returns-in-err-row
-returns-in-err-row c = ap (option_map strategy_legs) c.from-residual.ensures ∙ strategy_none (rows_of c.args.self.now) c.args.number c.in-err-row.ensures
+pub returns-in_err-row : goal.returns-in_err-row
+returns-in_err-row c = ap (option_map strategy_legs) c.from_residual.ensures ∙ strategy_none (rows_of c.args.self.now) c.args.number c.in_err-row.ensures
 
 pub returns-in-Ok : goal.returns-in-Ok
-returns-in-Ok c = strategy_some (rows_of c.args.self.now) c.args.number c.in-ok-row.row (Ok c.in-Ok.strategy) c.in-ok-row.ensures c.in-Ok.ensures.answer
+returns-in-Ok c = strategy_some (rows_of c.args.self.now) c.args.number c.in_ok-row.row (Ok c.in-Ok.strategy) c.in_ok-row.ensures c.in-Ok.ensures.answer
 
 pub returns-in-Err : goal.returns-in-Err
-returns-in-Err c = strategy_some (rows_of c.args.self.now) c.args.number c.in-ok-row.row (Err c.in-Err.field-0) c.in-ok-row.ensures c.in-Err.ensures.answer
+returns-in-Err c = strategy_some (rows_of c.args.self.now) c.args.number c.in_ok-row.row (Err c.in-Err.field-0) c.in_ok-row.ensures c.in-Err.ensures.answer
