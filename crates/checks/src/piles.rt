@@ -13,9 +13,9 @@ pub(crate) fn take_through<B: SimpleBook>(
     side: Side,
     quantity: u32,
 ) -> (B, Result<(), Refusal>)
-    ensures answer { result.1 ≡ take_answer (lots book) series side quantity }
-    ensures lots { lots result.0 ≡ after result.1 (taken (lots book) series side quantity) (lots book) }
-    ensures frame { frame result.0 ≡ frame book }
+    ensures answer { result.1 ≡ take_answer (B.lots book) series side quantity }
+    ensures lots { B.lots result.0 ≡ after result.1 (taken (B.lots book) series side quantity) (B.lots book) }
+    ensures frame { B.frame result.0 ≡ B.frame book }
 {
     let mut layer = HoldLayer::new(book);
     let answer = layer.take(series, side, quantity);
@@ -30,8 +30,8 @@ pub(crate) fn take_through_two<B: SimpleBook>(
     side: Side,
     quantity: u32,
 ) -> (B, Result<(), Refusal>)
-    ensures answer { result.1 ≡ take_answer (lots book) series side quantity }
-    ensures lots { lots result.0 ≡ after result.1 (taken (lots book) series side quantity) (lots book) }
+    ensures answer { result.1 ≡ take_answer (B.lots book) series side quantity }
+    ensures lots { B.lots result.0 ≡ after result.1 (taken (B.lots book) series side quantity) (B.lots book) }
 {
     let (layer, answer) = take_through(HoldLayer::new(book), series, side, quantity);
     let (book, _) = layer.into_parts();

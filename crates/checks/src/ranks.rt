@@ -2,8 +2,6 @@
 ghost use Rattle.std.specs.Prelude.{[], ◌∷◌, pos};
 ghost use Rattle.ranked.specs.Lex.{by_keys, first_if, better};
 ghost use Rattle.ranked.proofs.Lexes.{keys_connected, keys_irreflexive, keys_transitive};
-ghost use Rattle.checks.specs.InterestRankedLemmas.{keys};
-ghost use Rattle.checks.specs.InterestRankedLemmas;
 
 use ranked::{Ranked, RankedList};
 
@@ -20,11 +18,11 @@ impl Ranked for Interest {
 
     ghost serial = { λ x. x.number };
 
-    ghost connected = { keys_connected InterestRankedLemmas.serial keys };
+    ghost connected = { keys_connected (λ x. x.number) ((λ x. first_if x.buy) ∷ (λ x. better x.buy (pos x.price)) ∷ []) };
 
-    ghost irreflexive = { keys_irreflexive InterestRankedLemmas.serial keys };
+    ghost irreflexive = { keys_irreflexive (λ x. x.number) ((λ x. first_if x.buy) ∷ (λ x. better x.buy (pos x.price)) ∷ []) };
 
-    ghost transitive = { keys_transitive InterestRankedLemmas.serial keys };
+    ghost transitive = { keys_transitive (λ x. x.number) ((λ x. first_if x.buy) ∷ (λ x. better x.buy (pos x.price)) ∷ []) };
 
     fn is_ahead(&self, other: &Interest) -> bool {
         if self.buy != other.buy {

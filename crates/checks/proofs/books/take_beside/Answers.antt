@@ -16,4 +16,4 @@ returns g c low d =
     let held : on_hold c.hold.new.self.marks s ≡ true =
     ap (λ (f : ℕ → Bool). f s) c.hold.ensures.held ∙ ap (λ (r : Done). after r (re_marked marks s true) (on_hold marks) s) done ∙ cond-true (eqb s s) true _ (eq-eqb s s refl) in
     let stays = undisturbed lots g.B.SimpleBook.frame c.hold.new.self c.take.new.self c.take.ensures.frame s d held in
-    ap (λ b. lots b s d) c.into-parts-book.ensures.book ∙ stays ∙ ap (λ b. lots b s d) (c.hold.ensures.book ∙ c.new-layer.ensures.book)
+    ap (λ b. lots b s d) c.into_parts-book.ensures.book ∙ stays ∙ ap (λ b. lots b s d) (c.hold.ensures.book ∙ c.new-layer.ensures.book)

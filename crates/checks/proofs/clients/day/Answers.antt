@@ -37,22 +37,22 @@ obeyed : {s t : State} {e : Event} → Always s e t → (h : List Event) → Run
 obeyed {s} {t} {e} always h run = let r = always h run in r.1 h [] e t refl r.0
 
 -- what was executed, cancelled and given back
-sum_within : (c : goal.After-struct-known·1) → c.in-ok-placed.placed.executed + c.in-ok-placed.placed.cancelled + c.in-ok-back.back ≤ c.args.order.quantity
+sum_within : (c : goal.After-struct_known-1) → c.in_ok-placed.placed.executed + c.in_ok-placed.placed.cancelled + c.in_ok-back.back ≤ c.args.order.quantity
 sum_within c =
     let seen = depth_lots c.args.book.now in
     let lawful = depth_lawful c.args.book.now in
-    let r1 = c.in-ok-define.ensures.runs seen 0 lawful [] c.open-engine.ensures.runs in
-    let r2 = c.in-ok-placed.ensures.runs _ r1.0 in
+    let r1 = c.in_ok-define.ensures.runs seen 0 lawful [] c.open-engine.ensures.runs in
+    let r2 = c.in_ok-placed.ensures.runs _ r1.0 in
     let r3 = c.evaluate.ensures.runs _ r2.0 in
-    let placing = obeyed c.in-ok-placed.ensures.runs _ r1.0 in
-    let last = obeyed (c.in-ok-back.ensures.runs seen 0 lawful) _ r3.0 in
-    together _ _ _ _ _ c.args.order c.in-ok-placed.placed c.in-ok-back.back last refl refl placing.told.2 refl refl
+    let placing = obeyed c.in_ok-placed.ensures.runs _ r1.0 in
+    let last = obeyed (c.in_ok-back.ensures.runs seen 0 lawful) _ r3.0 in
+    together _ _ _ _ _ c.args.order c.in_ok-placed.placed c.in_ok-back.back last refl refl placing.told.2 refl refl
 
-pub overflow-add-result : goal.overflow-add-result
-overflow-add-result c = let h = sum_within c in search rules
+pub overflow_add-result : goal.overflow_add-result
+overflow_add-result c = let h = sum_within c in search rules
 
-pub overflow-add-result-2 : goal.overflow-add-result-2
-overflow-add-result-2 c = let h = sum_within c in search rules
+pub overflow_add-result-2 : goal.overflow_add-result-2
+overflow_add-result-2 c = let h = sum_within c in search rules
 
 pub returns : goal.returns
 returns c = sum_within c

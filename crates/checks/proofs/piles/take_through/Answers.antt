@@ -16,6 +16,6 @@ returns g c =
     let bare = uncovered (layer_frame lots frame layer) (lots book) (layer_lots lots layer) (frame book) framed in
     record {
       answer = took.answer ∙ ap (λ (b : Lots). take_answer b c.args.series c.args.side c.args.quantity) c.new-layer.ensures.lots;
-      lots = c.into-parts-book.ensures.below ∙ bare ∙ took.lots ∙ ap (λ (b : Lots). after c.take-answer.result (taken b c.args.series c.args.side c.args.quantity) b) c.new-layer.ensures.lots;
-      frame = ap (λ f. f.below) (c.into-parts-book.ensures.frame ∙ framed);
+      lots = c.into_parts-book.ensures.below ∙ bare ∙ took.lots ∙ ap (λ (b : Lots). after c.take-answer.result (taken b c.args.series c.args.side c.args.quantity) b) c.new-layer.ensures.lots;
+      frame = ap (λ f. f.below) (c.into_parts-book.ensures.frame ∙ framed);
     }
