@@ -1,9 +1,7 @@
 -- A layer that holds nothing hides nothing.
-use Rattle.std.proofs.Common.{◌≡◌, ℕ, cond, List, sym, refl, ap, ◌∙◌}
+use Rattle.std.proofs.Common.{◌≡◌, cond, ap, ◌∙◌}
 use mathlib.Core.Path.{fun_ext}
 use Rattle.std.proofs.lemmas.Bool.{cond-false}
-use Rattle.simple.specs.declared.lot.Lot.{Lot}
-use Rattle.simple.specs.declared.lot.Side.{Side}
 use Rattle.simple.specs.Lots.{Lots}
 use Rattle.holds.specs.Hold.{HoldFrame, no_marks, on_hold, hold_frame, beneath}
 use Rattle.holds.proofs.Holds.{none_held}

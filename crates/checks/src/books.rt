@@ -8,7 +8,7 @@ use simple::{Best, Side, SimpleBook};
 
 // Takes from any book while one of its series is on hold: that series keeps its lots.
 fn take_beside<B: SimpleBook>(book: B, held: u32, series: u32, quantity: u32) -> B
-    ensures { held ≤ last_series → (d : Side) → lots result held d ≡ lots book held d }
+    ensures { held ≤ last_series → (d : Side) → B.lots result held d ≡ B.lots book held d }
 {
     let mut layer = HoldLayer::new(book);
     let _ = layer.hold(held);

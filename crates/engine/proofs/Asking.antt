@@ -11,7 +11,6 @@ use Rattle.contents.specs.declared.message.Message.{Message}
 use Rattle.contents.specs.declared.message.Message.TheVariants as message
 use Rattle.strategies.specs.declared.leg.Leg.{Leg}
 use Rattle.strategies.specs.Rows.{row_legs, row_fault}
-use Rattle.messages.specs.Bits.{field}
 use Rattle.messages.specs.Writing.{leg}
 use Rattle.messages.specs.Laws.{LegWritten, Written}
 use Rattle.messages.proofs.FieldLaws.{field_below}
@@ -21,7 +20,7 @@ use Rattle.rules.specs.declared.answer.Intake.TheVariants as intake
 use Rattle.rules.specs.Limits.{order_places, strategy_places, most_quantity, most_accepted}
 use Rattle.rules.specs.States.{State, strategy_at, stands_among}
 use Rattle.rules.specs.Events.{Call, define, place, evaluate, cancel, unreadable, unread, leg_said, call_said, call_in, call_of, answer_intake}
-use Rattle.rules.specs.Calls.{refuse, unless, test, fault_at, limit_lawful, did}
+use Rattle.rules.specs.Calls.{refuse, test, fault_at, limit_lawful, did}
 use Rattle.engine.specs.Messages.{NarrowLeg, Narrow, answer_asked}
 use Rattle.engine.proofs.Dids.{unready, ready_so, define_refused, place_refused}
 

@@ -1,5 +1,5 @@
 -- What the words of a line ask for: bytes to read, or a message to write.
-use Rattle.std.specs.Prelude.{ℕ, true, false, cond, List, [], ◌∷◌, length, drop, ℤ, pos, Some, None, codes, Option, ◌==◌, nat_le, nat_lt, slice_index}
+use Rattle.std.specs.Prelude.{ℕ, true, false, cond, List, [], ◌∷◌, length, drop, pos, Some, None, codes, Option, ◌==◌, nat_le, nat_lt, slice_index}
 use Rattle.std.specs.Str.{bytes_eq}
 use Rattle.contents.specs.declared.sides.LegSide.{LegSide}
 use Rattle.contents.specs.declared.sides.LegSide.TheVariants.{Bought, Sold}

@@ -9,7 +9,6 @@ use Rattle.contents.specs.declared.time.TimeInForce.TheVariants.{Day}
 use Rattle.contents.specs.declared.message.LegFields.{LegFields}
 use Rattle.contents.specs.declared.message.Message.{Message}
 use Rattle.contents.specs.declared.message.Message.TheVariants.{Place, Cancel, Evaluate, Define}
-use Rattle.contents.specs.declared.message.Received.{Received}
 use Rattle.contents.specs.Times.{time_code}
 use Rattle.messages.specs.Writing.{leg}
 use Rattle.hex_bytes.specs.Bytes.{hex_of}

@@ -1,5 +1,5 @@
 -- What each call is answered with, and what it leaves.
-use Rattle.std.specs.Prelude.{ℕ, true, false, Ok, Err, slice_set}
+use Rattle.std.specs.Prelude.{true, false, Ok, Err, slice_set}
 use Rattle.refusals.specs.declared.station.Station.TheVariants.{Hold as holding, Release as releasing}
 use Rattle.simple.specs.Lots.{Lots}
 use Rattle.simple.specs.Best.{best_of}

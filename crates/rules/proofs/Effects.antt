@@ -1,12 +1,11 @@
 -- What a call can do, one case each.
-use Rattle.std.proofs.Common.{◌≡◌, ℕ, ◌+◌, ◌≤◌, Bool, true, false, cond, not, List, [], ◌∷◌, ◌++◌, length, is_some, Some, None, Option, sym, refl, ap, ◌∙◌, subst, arith}
+use Rattle.std.proofs.Common.{◌≡◌, ℕ, ◌+◌, Bool, true, false, not, List, [], ◌∷◌, ◌++◌, length, Some, None, Option, sym, refl, ap, subst, arith}
 use Rattle.refusals.specs.declared.reason.Reason.{Reason}
 use Rattle.refusals.specs.declared.reason.Reason.TheVariants.{Memory}
 use Rattle.refusals.specs.declared.station.Station.TheVariants.{Opening}
 use Rattle.refusals.specs.Refusals.{refused_at}
 use Rattle.refusals.specs.declared.refusal.Refusal.{Refusal}
 use Rattle.contents.specs.declared.fault.ReaderFault.{ReaderFault}
-use Rattle.simple.specs.Lots.{Lots}
 use Rattle.strategies.specs.declared.leg.Leg.{Leg}
 use Rattle.strategies.specs.declared.row.StrategyRow.{StrategyRow}
 use Rattle.strategies.specs.Rows.{row_fault}
@@ -14,7 +13,7 @@ use Rattle.ranked.specs.Ranking.{ranked_insert}
 use Rattle.rules.specs.declared.order.NewOrder.{NewOrder}
 use Rattle.rules.specs.declared.order.Order.{Order}
 use Rattle.rules.specs.Orders.{order_ahead, order_with}
-use Rattle.rules.specs.Steps.{Stepped, trading, steps}
+use Rattle.rules.specs.Steps.{trading, steps}
 use Rattle.rules.specs.States.{State, strategy_at}
 use Rattle.rules.specs.Events.{Event, Call, define, place, evaluate, cancel, unreadable, Answer, defined, placed, evaluated, cancelled, refused, unread}
 use Rattle.rules.specs.Calls.{Did, refuse, unless, test, define_refusal, fault_at, did_define, cancel_found, did_cancel, evaluated_with, evaluate_on, did_evaluate, entered, place_refusal, placed_with, place_on, did_place, did_nothing, did}

@@ -1,13 +1,12 @@
 -- A list of calls and one call more: what was accepted, defined, executed and cancelled.
-use Rattle.std.proofs.Common.{◌≡◌, ℕ, ◌+◌, ◌≤◌, Bool, true, false, cond, ◌⊎◌, List, [], ◌∷◌, ◌++◌, sym, refl, ap, ◌∙◌, subst, inl, inr, arith}
-use Rattle.std.specs.List.{ContainsAt as Has}
+use Rattle.std.proofs.Common.{◌≡◌, ℕ, ◌+◌, ◌⊎◌, List, [], ◌∷◌, ◌++◌, ap, ◌∙◌, inl, inr, arith}
 use Rattle.std.proofs.ByRecursion.{has_append_left, has_push, has_push_cases}
 use Rattle.strategies.specs.declared.leg.Leg.{Leg}
 use Rattle.strategies.specs.declared.row.StrategyRow.{StrategyRow}
 use Rattle.strategies.specs.Rows.{row_legs}
 use Rattle.rules.specs.declared.order.NewOrder.{NewOrder}
 use Rattle.rules.specs.declared.answer.Placed.{Placed}
-use Rattle.rules.specs.Events.{Event, Call, define, place, Answer, defined, placed}
+use Rattle.rules.specs.Events.{Event, define, place, defined, placed}
 use Rattle.rules.specs.Laws.{Accepted, Defined, sum, traded_of, executed, cancelled_by, cancelled_of}
 
 -- a sum over one entry more

@@ -1,40 +1,38 @@
 -- Every call keeps what is known of an engine.
-use Rattle.std.proofs.Common.{◌≡◌, ℕ, ◌+◌, ◌-◌, ◌<◌, ◌≤◌, Bool, true, false, cond, not, ◌&&◌, eqb, leb, ◌⊎◌, List, [], ◌∷◌, ◌++◌, length, is_some, Some, None, Option, sym, refl, ap, ◌∙◌, subst, inl, inr, ⊎_elim, arith}
-use Rattle.std.specs.List.{ContainsAt as Has, AllByRecursion}
-use Rattle.std.proofs.ByRecursion.{all-has, all_has_itself, All-weaker}
+use Rattle.std.proofs.Common.{◌≡◌, ℕ, ◌+◌, ◌<◌, ◌≤◌, Bool, true, false, cond, not, ◌&&◌, eqb, leb, ◌⊎◌, List, [], ◌∷◌, ◌++◌, length, is_some, Some, None, Option, sym, refl, ap, ◌∙◌, subst, inl, inr, ⊎_elim, arith}
+use Rattle.std.specs.List.{ContainsAt as Has}
+use Rattle.std.proofs.ByRecursion.{all_has_itself, All-weaker}
 use Rattle.std.proofs.lemmas.List.{length-append}
 use Rattle.std.proofs.lemmas.Bool.{true≢false, cases_eq, cond-true, cond-false, eq-eqb, ne_eqb, and_parts, leb-true}
 use Rattle.refusals.specs.declared.reason.Reason.TheVariants.{Memory, Strategy, Quantity, Limit, BookFull, NumbersSpent}
 use Rattle.refusals.specs.declared.station.Station.TheVariants.{Opening, Place}
 use Rattle.refusals.specs.declared.refusal.Refusal.{Refusal}
 use Rattle.refusals.specs.Refusals.{refused_at}
-use Rattle.simple.specs.Lots.{Lots}
 use Rattle.strategies.specs.declared.leg.Leg.{Leg}
 use Rattle.strategies.specs.declared.row.StrategyRow.{StrategyRow}
 use Rattle.strategies.specs.Rows.{row_legs, row_fault}
 use Rattle.ranked.specs.Ranking.{ranked_insert, Absent}
 use Rattle.rules.specs.declared.order.NewOrder.{NewOrder}
 use Rattle.rules.specs.declared.order.Order.{Order}
-use Rattle.rules.specs.declared.execution.Execution.{Execution}
 use Rattle.rules.specs.declared.answer.Placed.{Placed}
 use Rattle.rules.specs.Limits.{most_quantity, order_places, most_accepted}
 use Rattle.rules.specs.Orders.{order_ahead, order_number, order_with, quantity_in, dropped, left_of}
-use Rattle.rules.specs.Steps.{Step, Trading, trading, step_of, Stepped, steps}
+use Rattle.rules.specs.Steps.{Trading, trading, Stepped, steps}
 use Rattle.rules.specs.States.{State, opened, strategy_at}
-use Rattle.rules.specs.Events.{Event, Call, define, place, evaluate, cancel, unreadable, Answer, defined, placed, evaluated, cancelled, refused, unread}
-use Rattle.rules.specs.Calls.{test, is_buy, is_immediate, entered, kept, place_refusal, limit_lawful, placed_with}
-use Rattle.rules.specs.Laws.{Accepted, Defined, sum, traded_of, executed, named, cancelled_by, cancelled_of, accepts, defines}
-use Rattle.rules.proofs.Ready.{Ready, StepFair}
-use Rattle.rules.proofs.Trails.{Trail, Stepping, stepping}
-use Rattle.rules.proofs.Accounts.{Same, Stems, same_refl, same_trans, stems_refl, stems_trans, with_some, left_none, left_absent, left_has, has_left}
+use Rattle.rules.specs.Events.{Event, Call, define, place, cancel, Answer, defined, placed, evaluated, cancelled, refused, unread}
+use Rattle.rules.specs.Calls.{test, is_immediate, entered, kept, place_refusal, limit_lawful}
+use Rattle.rules.specs.Laws.{Accepted, sum, traded_of, executed, named, cancelled_by, cancelled_of, accepts, defines}
+use Rattle.rules.proofs.Ready.{Ready}
+use Rattle.rules.proofs.Trails.{Stepping, stepping}
+use Rattle.rules.proofs.Accounts.{Same, Stems, same_trans, stems_refl, left_absent}
 use Rattle.rules.proofs.Reductions.{ready_dropped, stems_dropped, left_dropped_same, left_dropped_other}
 use Rattle.rules.proofs.Advances.{trail_ready, trail_stems, trail_account}
 use Rattle.rules.proofs.Arrivals.{has_inserted, ready_inserted, left_inserted_same, left_inserted_other}
 use Rattle.rules.proofs.Fairness.{fair_step}
 use Rattle.rules.proofs.Tables.{strategy_added, strategy_before, strategy_cases}
-use Rattle.rules.proofs.History.{sum_push, Accepts, Defines, accepted_later, accepted_now, accepted_cases, defined_later, defined_now, defined_cases, executed_more, cancelled_more}
+use Rattle.rules.proofs.History.{sum_push, Accepts, Defines, accepted_now, accepted_cases, defined_later, defined_now, defined_cases, executed_more, cancelled_more}
 use Rattle.rules.proofs.Effects.{Quiet, Does, Effect, quiet, defining, cancelling, evaluating, placing}
-use Rattle.rules.proofs.Knowing.{Backed, Tabled, Known, Unplaced, Undefined, backed_later, same_table, unaccepting}
+use Rattle.rules.proofs.Knowing.{Backed, Known, Unplaced, Undefined, backed_later, same_table, unaccepting}
 
 -- answers of one kind are not of another
 is_placed : Answer → ℕ

@@ -1,18 +1,18 @@
 -- What is known of an engine after a list of calls: the invariant of runs.
-use Rattle.std.proofs.Common.{◌≡◌, ℕ, ◌+◌, ◌<◌, ◌≤◌, Bool, true, false, cond, eqb, ◌⊎◌, List, [], ◌∷◌, ◌++◌, length, Some, None, Option, sym, refl, ap, ◌∙◌, subst, inl, inr, ⊎_elim, arith}
+use Rattle.std.proofs.Common.{◌≡◌, ℕ, ◌+◌, ◌<◌, ◌≤◌, false, List, [], ◌∷◌, ◌++◌, length, Some, sym, ap, ◌∙◌, subst, ⊎_elim, arith}
 use Rattle.std.specs.List.{ContainsAt as Has}
 use Rattle.strategies.specs.declared.leg.Leg.{Leg}
 use Rattle.rules.specs.declared.order.NewOrder.{NewOrder}
 use Rattle.rules.specs.declared.order.Order.{Order}
 use Rattle.rules.specs.declared.answer.Placed.{Placed}
 use Rattle.rules.specs.Orders.{left_of}
-use Rattle.rules.specs.States.{State, opened, strategy_at}
-use Rattle.rules.specs.Events.{Event, Call, Answer, defined, placed, evaluated, cancelled, refused, unread}
+use Rattle.rules.specs.States.{State, strategy_at}
+use Rattle.rules.specs.Events.{Event, Answer, defined, placed}
 use Rattle.rules.specs.Calls.{is_buy}
 use Rattle.rules.specs.Laws.{Accepted, Defined, sum, traded_of, executed, cancelled_by, cancelled_of, accepts, defines}
 use Rattle.rules.proofs.Ready.{Ready}
 use Rattle.rules.proofs.Accounts.{Same, Stems}
-use Rattle.rules.proofs.History.{sum_push, Accepts, Defines, accepted_later, accepted_now, accepted_cases, defined_later, defined_now, defined_cases, executed_more, cancelled_more}
+use Rattle.rules.proofs.History.{sum_push, accepted_later, accepted_cases, defined_later, defined_cases, executed_more, cancelled_more}
 
 -- an order at rest is one that was accepted
 pub record Backed (h : List Event) (x : Order) : Type 0 where

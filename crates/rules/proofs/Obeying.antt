@@ -1,10 +1,9 @@
 -- Every list of calls obeys the law.
-use Rattle.std.proofs.Common.{◌≡◌, ℕ, ◌+◌, ◌-◌, ◌≤◌, Bool, true, false, cond, ◌||◌, List, [], ◌∷◌, ◌++◌, length, Some, None, Option, sym, refl, ap, ◌∙◌, subst, ⊎_elim, arith}
+use Rattle.std.proofs.Common.{◌≡◌, ℕ, ◌+◌, ◌-◌, ◌≤◌, Bool, true, false, cond, ◌||◌, List, [], ◌∷◌, ◌++◌, length, Some, sym, refl, ap, ◌∙◌, subst, ⊎_elim, arith}
 use Rattle.std.specs.List.{ContainsAt as Has}
 use Rattle.std.proofs.lemmas.List.{same_from_push, length_push}
-use Rattle.std.proofs.lemmas.Bool.{true≢false}
 use Rattle.simple.specs.declared.lot.Side.{Side}
-use Rattle.simple.specs.Lots.{Lots, Lawful, contracts}
+use Rattle.simple.specs.Lots.{Lots, contracts}
 use Rattle.strategies.specs.declared.leg.Leg.{Leg}
 use Rattle.strategies.specs.Lawful.{Exactly}
 use Rattle.ranked.specs.Ranking.{ranked_insert}
@@ -14,13 +13,13 @@ use Rattle.rules.specs.declared.execution.Execution.{Execution}
 use Rattle.rules.specs.declared.answer.Outcome.{Outcome}
 use Rattle.rules.specs.declared.answer.Outcome.TheVariants.{AtRest, More}
 use Rattle.rules.specs.Orders.{order_ahead, left_of, dropped}
-use Rattle.rules.specs.Steps.{Trading, trading, step_of, Stepped, steps, rests}
-use Rattle.rules.specs.States.{State, opened, strategy_at}
-use Rattle.rules.specs.Events.{Event, Call, define, place, evaluate, cancel, unreadable, Answer, defined, placed, evaluated, cancelled, refused, unread}
+use Rattle.rules.specs.Steps.{Trading, trading, Stepped, steps}
+use Rattle.rules.specs.States.{State, strategy_at}
+use Rattle.rules.specs.Events.{Event, Call, place, evaluate, Answer, defined, placed, evaluated, cancelled, refused, unread}
 use Rattle.rules.specs.Calls.{entered, kept, is_immediate, outcome, outcome_of, placed_with}
-use Rattle.rules.specs.Runs.{Happens, Run, start, further}
-use Rattle.rules.specs.Laws.{Accepted, Defined, sum, traded_of, executed, cancelled_of, resting, Executing, TakenIn, TakenOver, before_calls, after_calls, Settled, stepped, Rested, accepts, defines, FullIfMore, Told, Law, Laws, Always, Theorem}
-use Rattle.rules.proofs.Ready.{Ready, Steady, Still}
+use Rattle.rules.specs.Runs.{Run, start, further}
+use Rattle.rules.specs.Laws.{Accepted, Defined, sum, traded_of, executed, cancelled_of, resting, Executing, TakenIn, TakenOver, before_calls, after_calls, Settled, stepped, Rested, Told, Law, Theorem}
+use Rattle.rules.proofs.Ready.{Ready, Still}
 use Rattle.rules.proofs.Trails.{Stepping, stepping}
 use Rattle.rules.proofs.Accounts.{Stems, same_refl, stems_refl}
 use Rattle.rules.proofs.Reductions.{stems_dropped}

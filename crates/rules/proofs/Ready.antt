@@ -1,5 +1,5 @@
 -- What is known of the orders of an engine, of a step and of a strategy without one.
-use Rattle.std.proofs.Common.{◌≡◌, ℕ, ◌≤◌, min, Bool, true, false, cond, List, ℤ, ◌≤ℤ◌, Some, MatchBool}
+use Rattle.std.proofs.Common.{◌≡◌, ℕ, ◌≤◌, min, Bool, true, false, List, ℤ, ◌≤ℤ◌, Some, MatchBool}
 use Rattle.std.specs.List.{ContainsAt as Has, AllByRecursion}
 use Rattle.ranked.specs.Ranking.{Sorted, Distinct}
 use Rattle.simple.specs.Limits.{last_series}
@@ -7,7 +7,6 @@ use Rattle.simple.specs.Lots.{Lots}
 use Rattle.strategies.specs.declared.leg.Leg.{Leg}
 use Rattle.strategies.specs.Lawful.{Rising, RatioFits}
 use Rattle.pricing.specs.declared.market.LegMarket.{LegMarket}
-use Rattle.pricing.specs.declared.market.NetPrice.{NetPrice}
 use Rattle.pricing.specs.Prices.{admissible}
 use Rattle.pricing.specs.Legging.{legged_quantity}
 use Rattle.pricing.specs.Trades.{Within}

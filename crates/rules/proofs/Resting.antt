@@ -1,6 +1,5 @@
 -- A strategy has come to rest exactly when nothing is left to do for the orders of its history.
-use Rattle.std.proofs.Common.{◌≡◌, ℕ, ◌+◌, ◌≤◌, Bool, true, false, cond, not, ◌||◌, List, [], ◌∷◌, ◌++◌, ℤ, is_some, Some, None, Option, sym, refl, ap, ◌∙◌, subst, arith}
-use Rattle.std.specs.List.{ContainsAt as Has, AllByRecursion}
+use Rattle.std.proofs.Common.{◌≡◌, ℕ, ◌≤◌, Bool, true, false, not, ◌||◌, List, [], is_some, Some, None, Option, sym, refl, ap, ◌∙◌, subst, arith}
 use Rattle.std.proofs.ByRecursion.{all-has}
 use Rattle.std.proofs.lemmas.Bool.{true≢false}
 use Rattle.refusals.specs.declared.reason.Reason.TheVariants.{Memory}
@@ -9,17 +8,12 @@ use Rattle.refusals.specs.Refusals.{refused_at}
 use Rattle.simple.specs.Lots.{Lots}
 use Rattle.strategies.specs.declared.leg.Leg.{Leg}
 use Rattle.strategies.specs.Lawful.{Exactly}
-use Rattle.pricing.specs.declared.market.LegMarket.{LegMarket}
-use Rattle.pricing.specs.Prices.{admissible}
 use Rattle.pricing.specs.Legging.{legged_quantity}
-use Rattle.pricing.specs.Trades.{Within}
-use Rattle.pricing.specs.Reading.{markets_of, Admissible}
 use Rattle.rules.specs.declared.order.NewOrder.{NewOrder}
 use Rattle.rules.specs.declared.order.Order.{Order}
-use Rattle.rules.specs.declared.answer.Outcome.{Outcome}
-use Rattle.rules.specs.declared.answer.Outcome.TheVariants.{AtRest, More}
+use Rattle.rules.specs.declared.answer.Outcome.TheVariants.{AtRest}
 use Rattle.rules.specs.Orders.{limit_of, order_with, quantity_in, left_of}
-use Rattle.rules.specs.Steps.{Step, Trading, trading, step_of, Stepped, rests}
+use Rattle.rules.specs.Steps.{Step, trading, step_of, Stepped, rests}
 use Rattle.rules.specs.States.{State, strategy_at}
 use Rattle.rules.specs.Events.{Event}
 use Rattle.rules.specs.Calls.{is_buy, unless, test, cancel_found, outcome, outcome_of}

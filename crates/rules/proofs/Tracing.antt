@@ -1,25 +1,19 @@
 -- The executions of a call obey the law, and take what they say.
-use Rattle.std.proofs.Common.{◌≡◌, ℕ, ◌+◌, ◌*◌, ◌≤◌, min, Bool, true, false, cond, eqb, List, [], ◌∷◌, ◌++◌, ℤ, ◌≤ℤ◌, Some, MatchBool, sym, refl, ap, ◌∙◌, subst, arith}
-use Rattle.std.specs.List.{ContainsAt as Has, AllByRecursion}
+use Rattle.std.proofs.Common.{◌≡◌, ℕ, ◌+◌, ◌≤◌, Bool, true, false, List, [], ◌∷◌, ◌≤ℤ◌, MatchBool, sym, refl, ap, ◌∙◌, subst, arith}
+use Rattle.std.specs.List.{ContainsAt as Has}
 use Rattle.std.proofs.ByRecursion.{all-has}
 use Rattle.simple.specs.declared.lot.Side.{Side}
 use Rattle.simple.specs.Lots.{Lots, contracts}
 use Rattle.strategies.specs.declared.leg.Leg.{Leg}
-use Rattle.pricing.specs.declared.market.LegMarket.{LegMarket}
 use Rattle.pricing.specs.declared.market.NetPrice.{NetPrice}
-use Rattle.pricing.specs.Legging.{size_taken}
-use Rattle.pricing.specs.Reading.{markets_of}
-use Rattle.rules.specs.declared.order.NewOrder.{NewOrder}
 use Rattle.rules.specs.declared.order.Order.{Order}
 use Rattle.rules.specs.declared.execution.Execution.{Execution}
-use Rattle.rules.specs.Orders.{market_limit, limit_of, order_number}
-use Rattle.rules.specs.Steps.{Step, pair, legged, Trading, trading, step_of, execution_of, orders_after, lots_after, legs_taken, after_step}
+use Rattle.rules.specs.Orders.{limit_of}
+use Rattle.rules.specs.Steps.{Step, pair, legged, Trading, execution_of, lots_after, legs_taken, after_step}
 use Rattle.rules.specs.Events.{Event}
-use Rattle.rules.specs.Calls.{is_buy}
-use Rattle.rules.specs.Laws.{Accepted, Defined, counted_limit, sum, takes, lots_past, Bought, Sold, Paired, Legged, LawfulExecution, Executing, leg_contracts, contracts_taken, TakenIn}
+use Rattle.rules.specs.Laws.{Accepted, Defined, counted_limit, sum, takes, lots_past, Bought, Sold, Legged, LawfulExecution, Executing, leg_contracts, contracts_taken, TakenIn}
 use Rattle.rules.proofs.Ready.{Ready, Steady, Mine, StepFair}
 use Rattle.rules.proofs.Trails.{Trail}
-use Rattle.rules.proofs.Accounts.{Same, Stems}
 use Rattle.rules.proofs.Advances.{step_ready, step_stems}
 use Rattle.rules.proofs.Fairness.{fair_step}
 use Rattle.rules.proofs.Granting.{granted, moved_by_takes, lots_past_pair, lots_past_buy, lots_past_sell, contracts_taken_pair, contracts_taken_buy, contracts_taken_sell}

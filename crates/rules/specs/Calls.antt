@@ -22,7 +22,7 @@ use Rattle.rules.specs.declared.answer.Outcome.{Outcome}
 use Rattle.rules.specs.declared.answer.Outcome.TheVariants.{AtRest, More}
 use Rattle.rules.specs.Limits.{order_places, strategy_places, most_quantity, furthest_limit, most_accepted}
 use Rattle.rules.specs.Orders.{order_ahead, dropped, order_with, left_of}
-use Rattle.rules.specs.Steps.{Trading, trading, Stepped, steps, rests}
+use Rattle.rules.specs.Steps.{trading, Stepped, steps, rests}
 use Rattle.rules.specs.States.{State, strategy_at, stands_among}
 use Rattle.rules.specs.Events.{Call, define, place, evaluate, cancel, unreadable, Answer, defined, placed, evaluated, cancelled, refused, unread}
 

@@ -1,5 +1,5 @@
 -- One call as the caller sees it: what was asked, what came with it, what it answered and left.
-use Rattle.std.specs.Prelude.{ℕ, Bool, true, false, cond, List, [], ◌∷◌, ◌++◌, map, length, take, drop, Ok, Err, Result}
+use Rattle.std.specs.Prelude.{ℕ, Bool, true, false, List, [], ◌++◌, map, length, take, drop, Ok, Err, Result}
 use Rattle.std.specs.Option.{unwrap_or}
 use Rattle.refusals.specs.declared.refusal.Refusal.{Refusal}
 use Rattle.contents.specs.declared.fault.ReaderFault.{ReaderFault}

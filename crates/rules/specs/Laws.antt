@@ -1,6 +1,6 @@
 -- The law over every list of calls, in the words of the subject: the accepted orders of the history, their executions,
 -- their cancellations, and what cancel would answer next.
-use Rattle.std.specs.Prelude.{◌≡◌, ℕ, ◌+◌, ◌*◌, ◌≤◌, Bool, true, false, cond, List, [], ◌∷◌, ◌++◌, length, ℤ, ◌≤ℤ◌, Some, None, fold, ◌==◌, ◌≢◌}
+use Rattle.std.specs.Prelude.{◌≡◌, ℕ, ◌+◌, ◌*◌, ◌≤◌, Bool, true, false, cond, List, [], ◌∷◌, ◌++◌, length, ℤ, ◌≤ℤ◌, Some, fold, ◌==◌, ◌≢◌}
 use Rattle.std.specs.List.{ContainsAt as Has, AllByRecursion}
 use Rattle.simple.specs.declared.lot.Side.{Side}
 use Rattle.simple.specs.Lots.{Lots, Lawful, contracts, same_side}
@@ -10,8 +10,8 @@ use Rattle.strategies.specs.declared.row.StrategyRow.{StrategyRow}
 use Rattle.strategies.specs.Lawful.{Exactly}
 use Rattle.strategies.specs.Rows.{row_legs}
 use Rattle.pricing.specs.declared.market.LegMarket.{LegMarket}
-use Rattle.pricing.specs.Legs.{in_places, net_bid, net_offer}
-use Rattle.pricing.specs.Prices.{leg_prices, admissible}
+use Rattle.pricing.specs.Legs.{in_places}
+use Rattle.pricing.specs.Prices.{leg_prices}
 use Rattle.pricing.specs.Legging.{size_taken, net_taken, prices_taken, legged_quantity}
 use Rattle.pricing.specs.Trades.{Fair, Within}
 use Rattle.pricing.specs.Reading.{markets_of, Admissible}
@@ -24,7 +24,7 @@ use Rattle.rules.specs.Orders.{market_limit}
 use Rattle.rules.specs.Steps.{side_taken}
 use Rattle.rules.specs.States.{State}
 use Rattle.rules.specs.Events.{Event, Call, define, place, evaluate, cancel, unreadable, Answer, defined, placed, evaluated, cancelled, refused, unread}
-use Rattle.rules.specs.Calls.{did, did_cancel, is_buy}
+use Rattle.rules.specs.Calls.{did_cancel, is_buy}
 use Rattle.rules.specs.Runs.{Run, Happens}
 
 -- ## Accepted orders and defined strategies

@@ -1,5 +1,5 @@
 -- The orders at rest: their rank, the best of a side, and what is left of one.
-use Rattle.std.specs.Prelude.{ℕ, ◌-◌, Bool, true, false, cond, not, ◌&&◌, List, [], ◌∷◌, ℤ, pos, neg_ℤ, Some, None, Option, ◌==◌, nat_lt}
+use Rattle.std.specs.Prelude.{ℕ, ◌-◌, Bool, cond, not, ◌&&◌, List, [], ◌∷◌, ℤ, pos, neg_ℤ, Some, None, Option, ◌==◌, nat_lt}
 use Rattle.ranked.specs.Lex.{by_keys, first_if, better}
 use Rattle.rules.specs.declared.order.Order.{Order}
 use Rattle.rules.specs.Limits.{furthest_limit}

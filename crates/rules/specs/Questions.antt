@@ -1,5 +1,5 @@
 -- The two questions: net market and display. They change nothing.
-use Rattle.std.specs.Prelude.{ℕ, cond, not, List, ℤ, Some, None, Ok, Err, Option, Result}
+use Rattle.std.specs.Prelude.{ℕ, cond, List, ℤ, Some, None, Ok, Err, Option, Result}
 use Rattle.refusals.specs.declared.reason.Reason.TheVariants.{Memory, Strategy, NotResting}
 use Rattle.refusals.specs.declared.station.Station.TheVariants.{Opening, Net, Display}
 use Rattle.refusals.specs.declared.refusal.Refusal.{Refusal}

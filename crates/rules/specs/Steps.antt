@@ -1,5 +1,5 @@
 -- One step of a strategy, what it leaves, and step after step.
-use Rattle.std.specs.Prelude.{ℕ, zero, suc, ◌*◌, min, Bool, true, false, cond, not, List, [], ◌∷◌, ℤ, is_some, Some, None, fold, Option, nat_le, nat_lt}
+use Rattle.std.specs.Prelude.{ℕ, zero, suc, ◌*◌, min, Bool, true, false, cond, not, List, [], ◌∷◌, is_some, Some, None, fold, Option, nat_le, nat_lt}
 use Rattle.std.specs.Option.{option_map, option_or}
 use Rattle.simple.specs.declared.lot.Side.{Side}
 use Rattle.simple.specs.declared.lot.Side.TheVariants.{Bid, Offer}

@@ -1,4 +1,4 @@
-use Rattle.std.proofs.Common.{◌≡◌, ap, ◌∙◌}
+use Rattle.std.proofs.Common.{ap, ◌∙◌}
 use Rattle.simple.specs.Lots.{Lots}
 use Rattle.simple.specs.Take.{after, take_answer, taken}
 use Rattle.holds.specs.Hold.{layer_lots, layer_frame}

@@ -1,7 +1,7 @@
-use Rattle.std.proofs.Common.{◌≡◌, ℕ, List, ◌++◌, get_or, take, string_bytes, sym, ap, ◌∙◌, arith}
+use Rattle.std.proofs.Common.{ℕ, List, ◌++◌, get_or, sym, ap, ◌∙◌}
 use Rattle.std.proofs.lemmas.List.{take_all}
 use Rattle.hex_bytes.specs.Bytes.{hex_of}
-use Rattle.gateway.specs.Texts.{gap_before, bytes_text}
+use Rattle.gateway.specs.Texts.{bytes_text}
 use Rattle.gateway.proofs.Shown.{bytes_more}
 use Rattle.gateway.proofs.answers.bytes_text.Goals as goal
 

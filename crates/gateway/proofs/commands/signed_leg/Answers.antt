@@ -1,7 +1,6 @@
-use Rattle.std.proofs.Common.{◌≡◌, ℕ, cond, eqb, List, drop, None, Option, sym, ap, ◌∙◌}
+use Rattle.std.proofs.Common.{ℕ, cond, eqb, List, drop, None, Option, sym, ap, ◌∙◌}
 use Rattle.contents.specs.declared.message.LegFields.{LegFields}
 use Rattle.std.proofs.lemmas.List.{take_rest}
-use Rattle.contents.specs.declared.sides.LegSide.{LegSide}
 use Rattle.contents.specs.declared.sides.LegSide.TheVariants.{Bought, Sold}
 use Rattle.numbers.specs.Numbers.{number_in}
 use Rattle.gateway.specs.Commands.{leg_of}

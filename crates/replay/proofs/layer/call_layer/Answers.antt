@@ -1,4 +1,4 @@
-use Rattle.std.proofs.Common.{◌≡◌, true, false, set, sym, ap, ◌∙◌}
+use Rattle.std.proofs.Common.{true, false, set, sym, ap, ◌∙◌}
 use Rattle.simple.specs.Take.{Done, after, taken}
 use Rattle.holds.specs.Hold.{layer_lots}
 use Rattle.replay.specs.declared.answer.Answer.TheVariants.{Best as best}

@@ -1,5 +1,5 @@
 -- `do_intake`: refused, not read, or what the call came to that the message asked for.
-use Rattle.std.proofs.Common.{◌≡◌, ℕ, List, length, take, Ok, Err, sym, refl, ap, ◌∙◌, subst}
+use Rattle.std.proofs.Common.{◌≡◌, length, take, Err, sym, refl, ap, ◌∙◌}
 use Rattle.std.proofs.lemmas.Result.{err_from_is_err_and}
 use Rattle.rules.specs.Calls.{Did, did, refuse}
 use Rattle.rules.specs.Events.{Answer, unread, call_of, answer_intake, records_told, written_over}

@@ -1,4 +1,4 @@
-use Rattle.std.proofs.Common.{◌≡◌, sym, ap, ◌∙◌}
+use Rattle.std.proofs.Common.{sym, ap, ◌∙◌}
 use Rattle.simple.specs.Take.{Done, after}
 use Rattle.boards.specs.Board.{board_lots, quoted}
 use Rattle.replay.specs.Calls.{done_answer}

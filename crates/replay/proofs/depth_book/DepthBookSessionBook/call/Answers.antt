@@ -1,4 +1,4 @@
-use Rattle.std.proofs.Common.{◌≡◌, ℕ, Result, sym, ap, ◌∙◌}
+use Rattle.std.proofs.Common.{ℕ, Result, sym, ap, ◌∙◌}
 use Rattle.refusals.specs.declared.refusal.Refusal.{Refusal}
 use Rattle.simple.specs.Take.{after}
 use Rattle.depth.specs.Meaning.{depth_lots}
