@@ -1,6 +1,6 @@
 //! A quantity taken from the front of one side.
 
-ghost use Rattle.std.specs.Prelude.{◌≡◌, ◌≤◌, ◌++◌, length, take as first_of, drop as rest_of};
+ghost use Rattle.std.specs.Prelude.{◌≡◌, ◌≤◌, ◌++◌, length, take as head_of, drop as rest_of};
 ghost use Rattle.std.specs.List.{prefix_len};
 ghost use Rattle.ranked.specs.Held.{items, room};
 ghost use Rattle.ranked.specs.Ranking.{Sorted};
@@ -24,7 +24,7 @@ fn reduce(
 ) -> usize
     requires first { first ≡ prefix_len (stands_before series side) (items lots.old) }
     requires sorted { Sorted lot_ahead (items lots.old) }
-    ensures items { first_of first (items lots.new) ++ rest_of result (items lots.new) ≡ take_lots series side quantity (items lots.old) }
+    ensures items { head_of first (items lots.new) ++ rest_of result (items lots.new) ≡ take_lots series side quantity (items lots.old) }
     ensures behind { (first ≤ result) × (result ≤ length (items lots.new)) }
     ensures room { room lots.new ≡ room lots.old }
 {
@@ -47,7 +47,7 @@ fn reduce(
 
 /// Removes all lots behind the first so many.
 fn shorten(lots: &mut RankedList<PostedLot>, count: usize)
-    ensures items { items lots.new ≡ first_of count (items lots.old) }
+    ensures items { items lots.new ≡ head_of count (items lots.old) }
     ensures room { room lots.new ≡ room lots.old }
 {
     let mut last = lots.len();
@@ -60,7 +60,7 @@ fn shorten(lots: &mut RankedList<PostedLot>, count: usize)
 /// Removes the lots from one place to another; each lot behind them moves once.
 fn close(lots: &mut RankedList<PostedLot>, first: usize, end: usize)
     requires { (first ≤ end) × (end ≤ length (items lots.old)) }
-    ensures items { items lots.new ≡ first_of first (items lots.old) ++ rest_of end (items lots.old) }
+    ensures items { items lots.new ≡ head_of first (items lots.old) ++ rest_of end (items lots.old) }
     ensures room { room lots.new ≡ room lots.old }
 {
     if first == end {

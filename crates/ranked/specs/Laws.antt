@@ -1,5 +1,5 @@
 -- What the edits of a ranked list keep. xs are its entries before an edit, and ys after it.
--- `Shuffled` lists have the same entries, each as often, in any order; `list_of r` is the entry in r, or none.
+-- By `IsPermutation` two lists have the same entries, each as often, in any order; `option_to_list r` is the entry in r, or none.
 use Rattle.std.specs.Prelude.{◌≡◌, ℕ, Bool, cond, List, ◌∷◌, ◌++◌, is_some, Some, Option}
 use Rattle.std.specs.Option.{option_to_list}
 use Rattle.std.specs.List.Sorted.{IsPermutation}
