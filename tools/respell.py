@@ -2,9 +2,9 @@
 """Respells the repository's own names as today's Rattle spells them: usage: python3 tools/respell.py [--list]
 
 Words are in snake case, types, facts and modules in camel case, and a prime is an apostrophe. To be run once, at the top, after the kit's port.py.
-A name is the repository's own where a file of specs/ or proofs/ declares it: a definition, a lemma, a field, a variable. Names that the check makes
-(they are declared in Answers, Invariants and Choices files alone, as answers to goals), names of std and names of src/ stay as they are.
---list prints the names without writing.
+A name is the repository's own where a file of specs/ or proofs/ declares it, or an import brings it in under another name: a definition, a lemma,
+a field, a variable. Names that the check makes (a line such as `f : goal.f` answers a goal), names of std and names of src/ stay as they are.
+Comments of .antt files speak of the names, and are respelt with them. --list prints the names without writing.
 """
 
 import collections
@@ -113,7 +113,7 @@ def respell(text, turn):
 
 
 def ghost(text, turn):
-    """A source file: only names with a dash or a prime stand for ghost names there, and no string or comment is touched."""
+    """A source file: only names with a dash or a prime stand for ghost names there. Strings that end on their line, and lines of comment, stay."""
     def line(l):
         if l.lstrip().startswith("//"):
             return l
