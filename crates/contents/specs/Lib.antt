@@ -1,3 +1,4 @@
-pub mod Faults
-pub mod Times
 pub mod Editions
+pub mod Faults
+pub mod Sides
+pub mod Times
