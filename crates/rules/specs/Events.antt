@@ -6,6 +6,7 @@ use Rattle.contents.specs.declared.fault.ReaderFault.{ReaderFault}
 use Rattle.contents.specs.declared.message.LegFields.{LegFields}
 use Rattle.contents.specs.declared.message.Message.{Message}
 use Rattle.contents.specs.declared.message.Message.TheVariants as message
+use Rattle.contents.specs.declared.message.PlaceFields.{PlaceFields}
 use Rattle.contents.specs.declared.message.Received.{Received}
 use Rattle.contents.specs.declared.sides.LegSide.{LegSide}
 use Rattle.contents.specs.declared.sides.LegSide.TheVariants.{Bought, Sold}
@@ -110,8 +111,11 @@ leg_said l = record { series = l.series; bought = is_bought l.side; ratio = l.ra
     is_bought Sold = false
 
 -- the reader lets no other time in force through
+abbrev pub order_said : PlaceFields → NewOrder
+order_said o = record { strategy = o.strategy; side = o.side; market = o.market; limit = o.limit; time_in_force = unwrap_or (time_coded o.time_in_force) Day; quantity = o.quantity }
+
 abbrev pub call_said : Message → Call
-call_said (message.Place o) = place (record { strategy = o.strategy; side = o.side; market = o.market; limit = o.limit; time_in_force = unwrap_or (time_coded o.time_in_force) Day; quantity = o.quantity })
+call_said (message.Place o) = place (order_said o)
 call_said (message.Cancel number) = cancel number
 call_said (message.Evaluate strategy) = evaluate strategy
 call_said (message.Define d) = define (record { count = d.count; legs = map leg_said d.legs })
