@@ -1,10 +1,12 @@
 // What a refused call answers.
-ghost use Rattle.std.specs.Prelude.{◌≡◌};
+ghost use Rattle.std.specs.Prelude.{◌≡◌, Some};
 ghost use Rattle.refusals.specs.Reasons.{number_of};
-ghost use Rattle.refusals.specs.Refusals.{refused_at};
+ghost use Rattle.refusals.specs.Refusals.{refused_at, refusal_text};
 
 use crate::reason::Reason;
 use crate::station::Station;
+use std::error::Error;
+use std::fmt;
 
 // A refusal: its station, its reason and, for a message's field, the field's bit place (else 0).
 #[derive(Clone, Copy, PartialEq, Eq, Debug)]
@@ -33,3 +35,21 @@ impl Refusal {
         self.reason.number()
     }
 }
+
+// What programs print of a refusal: its station, its number and, for a field, the bit place.
+impl fmt::Display for Refusal {
+    ghost output = { λ r. Some (refusal_text r) };
+
+    fn fmt<W: fmt::Write>(&self, f: &mut fmt::Formatter<W>) -> fmt::Result {
+        let station = self.station;
+        let number = self.number();
+        let bit = self.bit;
+        if self.reason == Reason::Field {
+            write!(f, "refused {station} {number} bit {bit}")
+        } else {
+            write!(f, "refused {station} {number}")
+        }
+    }
+}
+
+impl Error for Refusal {}

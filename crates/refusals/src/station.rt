@@ -1,6 +1,8 @@
 // The stations: the parts of the engine that refuse.
-ghost use Rattle.std.specs.Prelude.{◌≡◌};
+ghost use Rattle.std.specs.Prelude.{◌≡◌, Some};
 ghost use Rattle.refusals.specs.Stations.{name_of};
+
+use std::fmt;
 
 // Where a call was refused. A row of the refusal table that several calls share answers the station of the call made.
 #[derive(Clone, Copy, PartialEq, Eq, Debug)]
@@ -44,5 +46,13 @@ impl Station {
             Station::Hold => "hold",
             Station::Release => "release",
         }
+    }
+}
+
+impl fmt::Display for Station {
+    ghost output = { λ s. Some (name_of s) };
+
+    fn fmt<W: fmt::Write>(&self, f: &mut fmt::Formatter<W>) -> fmt::Result {
+        f.write_str(self.name())
     }
 }

@@ -1,8 +1,9 @@
-// The text of a line, of a refusal and of an error.
-ghost use Rattle.std.specs.Prelude.{◌≡◌, [], ◌++◌, IfOk, string_bytes, codes, decimal};
-ghost use Rattle.replies.specs.Texts.{newline, refusal_text};
+// The text of a line, of an error and of a refusal.
+ghost use Rattle.std.specs.Prelude.{◌≡◌, ◌++◌, IfOk, string_bytes, codes, decimal};
+ghost use Rattle.refusals.specs.Refusals.{refusal_text};
+ghost use Rattle.replies.specs.Texts.{newline};
 
-use refusals::{Reason, Refusal};
+use refusals::Refusal;
 use std::alloc::{AllocError, Global};
 
 // A line as it is printed: its words, and the answer below them.
@@ -19,32 +20,9 @@ pub fn error_line(heap: Global, line: u64, reason: &str) -> Result<String, Alloc
     format!(in heap; "error line {line}: {reason}")
 }
 
-fn field_refusal_line(
-    heap: Global,
-    station: &str,
-    number: u32,
-    bit: u32,
-) -> Result<String, AllocError>
-    ensures { IfOk result (λ t. string_bytes t ≡ codes "refused " ++ (station.now ++ (codes " " ++ (decimal number ++ (codes " bit " ++ decimal bit))))) }
-{
-    format!(in heap; "refused {station} {number} bit {bit}")
-}
-
-fn refusal_line(heap: Global, station: &str, number: u32) -> Result<String, AllocError>
-    ensures { IfOk result (λ t. string_bytes t ≡ codes "refused " ++ (station.now ++ (codes " " ++ (decimal number ++ [])))) }
-{
-    format!(in heap; "refused {station} {number}")
-}
-
 // What a refusal says: its station, its number and, for a field, the bit place.
 pub fn refusal_text(heap: Global, refusal: &Refusal) -> Result<String, AllocError>
     ensures { IfOk result (λ t. string_bytes t ≡ refusal_text refusal.now) }
 {
-    let station = refusal.station.name();
-    let number = refusal.number();
-    if number == Reason::Field.number() {
-        field_refusal_line(heap, station, number, refusal.bit)
-    } else {
-        refusal_line(heap, station, number)
-    }
+    refusal.to_string(heap)
 }

@@ -1,7 +1,9 @@
--- The two parts of a word, from what the loop that looks for the mark has passed.
-use Rattle.std.proofs.Common.{◌≡◌, ℕ, ◌+◌, ◌-◌, ◌<◌, eqb, List, [], ◌∷◌, ◌++◌, length, get_or, take, drop, Some, None, sym, refl, ap, ◌∙◌, subst, arith}
+-- The two parts of a word, from where its first mark is.
+use Rattle.std.proofs.Common.{◌≡◌, ℕ, ◌+◌, ◌-◌, ◌<◌, ◌≤◌, ◌≢◌, eqb, List, [], ◌∷◌, ◌++◌, length, get_or, take, drop, Some, None, sym, refl, ap, ◌∙◌, subst, arith}
 use Rattle.std.specs.Option.{option_map}
-use Rattle.std.proofs.lemmas.List.{drop_more, take-append-drop, take_rest}
+use Rattle.std.specs.List.{AllWithin}
+use Rattle.std.proofs.lemmas.List.{drop_more, take-append-drop, take_rest, get_or-take, length-take-le}
+use Rattle.std.proofs.lemmas.List.Elements.{All-from_all_within, recursion_from_All}
 use Rattle.std.proofs.lemmas.Bool.{cond-true, cond-false, eq-eqb, ne_eqb}
 use Rattle.text.specs.Words.{parts_at, Without}
 
@@ -20,11 +22,15 @@ pub record Cut (mark : ℕ) (w front back : List ℕ) : Type 0 where
   pub whole : w ≡ front ++ mark ∷ back
   pub first : Without mark front
 
-pub cut_at : (mark : ℕ) (w : List ℕ) (i : ℕ) → i < length w → get_or w i 0 ≡ mark → Without mark (take i w) → Cut mark w (take (i - 0) w) (take (length w - (i + 1)) (drop (i + 1) w))
+pub none_before : (mark : ℕ) (w : List ℕ) (i : ℕ) → i ≤ length w → AllWithin (λ b. b ≢ mark) w 0 i → Without mark (take i w)
+none_before mark w i l h =
+    let n : length (take i w) ≡ i = length-take-le i w l in
+    recursion_from_All (λ b. b ≢ mark) (take i w) (All-from_all_within (λ b. b ≢ mark) (take i w) (λ k d lo hi. let within : k < i = omega arith in subst (λ b. b ≢ mark) (sym (get_or-take i w k d within)) (h k d lo within)))
+
+pub cut_at : (mark : ℕ) (w : List ℕ) (i : ℕ) → i < length w → get_or w i 0 ≡ mark → Without mark (take i w) → Cut mark w (take i w) (take (length w - (i + 1)) (drop (i + 1) w))
 cut_at mark w i l e passed =
-    let same : i - 0 ≡ i = omega arith in
     let cut : w ≡ take i w ++ mark ∷ drop (i + 1) w = sym (take-append-drop i w) ∙ ap (λ bs. take i w ++ bs) (drop_more w i 0 l ∙ ap (λ b. b ∷ drop (i + 1) w) e) in
-    subst (λ n. Cut mark w (take n w) (take (length w - (i + 1)) (drop (i + 1) w))) (sym same) (subst (Cut mark w (take i w)) (sym (take_rest w (i + 1))) (record { whole = cut; first = passed }))
+    subst (Cut mark w (take i w)) (sym (take_rest w (i + 1))) (record { whole = cut; first = passed })
 
 pub found : (mark : ℕ) (w front back : List ℕ) → Cut mark w front back → Some (front, back) ≡ parts_at mark w
 found mark w front back h = sym (ap (parts_at mark) h.whole ∙ two_parts mark front back h.first)

@@ -1,63 +1,50 @@
--- The steps of the loop that splits a line, and that the words it finds are the line's longest runs.
-use Rattle.std.proofs.Common.{◌≡◌, ℕ, ◌+◌, ◌-◌, ◌<◌, ◌≤◌, true, false, cond, List, [], ◌∷◌, ◌++◌, length, get_or, take, drop, sym, refl, ap, ◌∙◌, subst, append_assoc, arith, Bor}
-use Rattle.std.specs.List.{AllByRecursion}
+-- The words of a line by the parts between its separators, and that they are its longest runs.
+use Rattle.std.proofs.Common.{◌≡◌, ℕ, ◌<◌, Bool, true, false, not, eqb, List, [], ◌∷◌, ◌++◌, length, sym, refl, ap, ◌∙◌, subst, append_assoc, append-nil, arith}
+use Rattle.std.specs.List.{AllByRecursion, filter, slice_split, onto_first}
 use Rattle.std.proofs.ByRecursion.{All-push}
-use Rattle.std.proofs.lemmas.List.{at_drop_more, at_drop_all, take_more, get_or-drop, length-drop, map_push}
-use Rattle.std.proofs.lemmas.Bool.{cond_both, cond-true, cond-false}
-use Rattle.text.specs.Words.{separates, ended, words_after, words_of, lent, Words}
+use Rattle.std.proofs.lemmas.Bool.{cond_both, cond-true, cond-false, ne_eqb}
+use Rattle.text.specs.Words.{separates, ended, words_after, words_of, Words}
 
 pub ended_some : (w : List ℕ) → 0 < length w → ended w ≡ w ∷ []
 ended_some [] l = absurd (omega arith)
 ended_some (b ∷ bs) l = refl
 
--- one more word that is lent
-pub lent_more : (old new : List (Bor (List ℕ))) (w : Bor (List ℕ)) → 0 < length w.now → new ≡ old ++ w ∷ [] → lent new ≡ lent old ++ ended w.now
-lent_more old new w l e = ap lent e ∙ map_push (λ x. x.now) old w ∙ ap (λ ws. lent old ++ ws) (sym (ended_some w.now l))
+-- the words are the parts between separators that have a byte
+abbrev pub has_byte : List ℕ → Bool
+has_byte [] = false
+has_byte (b ∷ bs) = true
 
--- the words found so far, and those of what is left after the word that began at start, are those of the line
-pub record Sofar (line : List ℕ) (found : List (List ℕ)) (start i : ℕ) : Type 0 where
-  pub within : start ≤ i
-  pub whole : found ++ words_after (take (i - start) (drop start line)) (drop i line) ≡ words_of line
+pub has_byte_is : (w : List ℕ) → not (eqb (length w) 0) ≡ has_byte w
+has_byte_is [] = refl
+has_byte_is (b ∷ bs) = ap not (ne_eqb (length (b ∷ bs)) 0 (λ e. omega arith))
 
-pub none_found : (line : List ℕ) → Sofar line [] 0 0
+-- the first of some parts, behind the bytes of a word that has begun
+abbrev behind : List ℕ → List (List ℕ) → List (List ℕ)
+behind [] parts = parts
+behind (x ∷ xs) parts = onto_first x (behind xs parts)
+
+behind_first : (begun : List ℕ) (parts : List (List ℕ)) → behind begun ([] ∷ parts) ≡ begun ∷ parts
+behind_first [] parts = refl
+behind_first (x ∷ xs) parts = ap (onto_first x) (behind_first xs parts)
+
+behind_more : (begun : List ℕ) (b : ℕ) (parts : List (List ℕ)) → behind (begun ++ b ∷ []) parts ≡ behind begun (onto_first b parts)
+behind_more [] b parts = refl
+behind_more (x ∷ xs) b parts = ap (onto_first x) (behind_more xs b parts)
+
+ended_part : (begun : List ℕ) (parts : List (List ℕ)) → filter has_byte (begun ∷ parts) ≡ ended begun ++ filter has_byte parts
+ended_part [] parts = refl
+ended_part (x ∷ xs) parts = refl
+
+parts_after : (begun bs : List ℕ) → filter has_byte (behind begun (slice_split separates bs)) ≡ words_after begun bs
+parts_after begun [] = ap (filter has_byte) (behind_first begun []) ∙ ended_part begun [] ∙ append-nil (ended begun)
+parts_after begun (b ∷ bs) =
+    cond_both (separates b) _ _ (λ parts. filter has_byte (behind begun parts) ≡ words_after begun (b ∷ bs))
+    (λ e. ap (filter has_byte) (behind_first begun (slice_split separates bs)) ∙ ended_part begun (slice_split separates bs) ∙ ap (λ ws. ended begun ++ ws) (parts_after [] bs) ∙ sym (cond-true (separates b) _ _ e))
+    (λ e. ap (filter has_byte) (sym (behind_more begun b (slice_split separates bs))) ∙ parts_after (begun ++ b ∷ []) bs ∙ sym (cond-false (separates b) _ _ e))
+
+pub parts_are_words : (line : List ℕ) → filter has_byte (slice_split separates line) ≡ words_of line
 unfolding words_of
-none_found line = record { within = omega arith; whole = refl }
-
-module _ (line : List ℕ) (found : List (List ℕ)) (start i : ℕ) (h : Sofar line found start i) where
-  at_byte : i < length line → found ++ cond (separates (get_or line i 0)) (ended (take (i - start) (drop start line)) ++ words_after [] (drop (i + 1) line)) (words_after (take (i - start) (drop start line) ++ get_or line i 0 ∷ []) (drop (i + 1) line)) ≡ words_of line
-  at_byte l = ap (λ ws. found ++ ws) (sym (at_drop_more (words_after (take (i - start) (drop start line))) line i 0 l)) ∙ h.whole
-
-  -- a separator ends the word
-  pub word_ends : i < length line → separates (get_or line i 0) ≡ true → Sofar line (found ++ ended (take (i - start) (drop start line))) (i + 1) (i + 1)
-  word_ends l e =
-      let none : i + 1 - (i + 1) ≡ 0 = omega arith in
-      let begun : List ℕ = take (i - start) (drop start line) in
-      let left : List ℕ = drop (i + 1) line in
-      record {
-        within = omega arith;
-        whole = subst (λ n. (found ++ ended begun) ++ words_after (take n left) left ≡ words_of line) (sym none) (append_assoc found (ended begun) (words_after [] left) ∙ ap (λ ws. found ++ ws) (sym (cond-true (separates (get_or line i 0)) _ _ e)) ∙ at_byte l);
-      }
-
-  -- any other byte is one more of it
-  pub word_goes_on : i < length line → separates (get_or line i 0) ≡ false → Sofar line found start (i + 1)
-  word_goes_on l e =
-      let upto : start ≤ i = h.within in
-      let place : start + (i - start) ≡ i = omega arith in
-      let one : i + 1 - start ≡ i - start + 1 = omega arith in
-      let tail : List ℕ = drop start line in
-      let left : List ℕ = drop (i + 1) line in
-      let grown : take (i + 1 - start) tail ≡ take (i - start) tail ++ get_or line i 0 ∷ [] =
-      ap (λ n. take n tail) one ∙ take_more tail (i - start) 0 (omega (arith, length-drop start line)) ∙ ap (λ b. take (i - start) tail ++ b ∷ []) (get_or-drop start line (i - start) 0 ∙ ap (λ n. get_or line n 0) place) in
-      record {
-        within = omega arith;
-        whole = ap (λ begun. found ++ words_after begun left) grown ∙ ap (λ ws. found ++ ws) (sym (cond-false (separates (get_or line i 0)) _ _ e)) ∙ at_byte l;
-      }
-
-  -- and so does the end of the line
-  pub line_ends : i ≡ length line → found ++ ended (take (length line - start) (drop start line)) ≡ words_of line
-  line_ends e =
-      let past : length line ≤ i = omega arith in
-      subst (λ n. found ++ ended (take (n - start) (drop start line)) ≡ words_of line) e (ap (λ ws. found ++ ws) (sym (at_drop_all (words_after (take (i - start) (drop start line))) line i past)) ∙ h.whole)
+parts_are_words line = parts_after [] line
 
 -- a separator in front changes no word
 skip : (b : ℕ) (bs : List ℕ) (ws : List (List ℕ)) → separates b ≡ true → Words bs ws → Words (b ∷ bs) ws

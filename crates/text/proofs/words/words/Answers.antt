@@ -1,21 +1,21 @@
-use Rattle.std.proofs.Common.{◌≡◌, length, sym, ◌∙◌, subst, arith}
-use Rattle.text.specs.Words.{Words}
-use Rattle.text.proofs.Runs.{none_found, word_ends, word_goes_on, line_ends, words_run}
+use Rattle.std.proofs.Common.{◌≡◌, sym, ◌∙◌, subst, vec_items, IfOk, rules, tests}
+use Rattle.std.proofs.lemmas.Iterator.Splits.{YieldsList-from_slice_split}
+use Rattle.std.proofs.lemmas.Iterator.Consumers.{map_from_collect, YieldsList-from_filter, YieldsList-at}
+use Rattle.std.proofs.lemmas.Result.{IfOk-weaker}
+use Rattle.std.specs.List.{filter, slice_split}
+use Rattle.text.specs.Words.{separates, lent, words_of, Words}
+use Rattle.text.proofs.Runs.{has_byte, has_byte_is, parts_are_words, words_run}
 use Rattle.text.proofs.words.words.Goals as goal
-use Rattle.text.proofs.words.words.Goals.{then-is_separator+in_ok-push_word, else-is_separator}
-
-pub loop-i-init : goal.loop-i-init
-loop-i-init c = rw c.new-words.ensures.items (none_found _)
-
-pub loop-i-preserved : goal.loop-i-preserved
-loop-i-preserved c =
-    elim c.if-is_separator.branch [
-      | then-is_separator+in_ok-push_word w ↦ rw (w.words-is, w.start-is, w.in_ok-push_word.ensures) (word_ends _ _ _ _ c.loop-i.invariant c.loop-i-test.true (sym w.if-is_separator.ensures))
-      | else-is_separator w ↦ rw (w.words-is, w.start-is) (word_goes_on _ _ _ _ c.loop-i.invariant c.loop-i-test.true (sym w.if-is_separator.ensures))
-    ]
 
 pub returns : goal.returns
 returns c =
-    let all : c.loop-i.i ≡ length c.args.line.now = omega arith in
-    let answer = c.in_ok-push_word-2.ensures ∙ line_ends _ _ _ _ c.loop-i.invariant all in
-    record { answer = answer; runs = subst (Words c.args.line.now) (sym answer) (words_run _) }
+    let line = c.args.line.now in
+    let kept : IfOk c.collect.result (λ v. lent (vec_items v) ≡ filter has_byte (slice_split separates line)) =
+    map_from_collect _ c.collect.ensures.ran
+    (YieldsList-from_filter _ has_byte
+    (YieldsList-at c.filter.ensures.source (YieldsList-from_slice_split _ separates line c.split.ensures.rest c.split.ensures.done c.split.ensures.closure (λ x r q k. search (rules, tests))))
+    c.filter.ensures.closure (λ x r q k. search (rules, tests, has_byte_is))) in
+    record {
+      answer = IfOk-weaker c.collect.result _ _ (λ v h. h ∙ parts_are_words line) kept;
+      runs = IfOk-weaker c.collect.result _ _ (λ v h. subst (Words line) (sym (h ∙ parts_are_words line)) (words_run line)) kept;
+    }
