@@ -17,14 +17,11 @@ fn is_of(order: Order, strategy: u32, buy: bool) -> bool
 pub fn best_order(orders: &RankedList<Order>, strategy: u32, buy: bool) -> Option<Order>
     ensures { result ≡ best_order strategy buy (items orders.now) }
 {
-    let mut place = 0;
-    while let Some(order) = orders.get(place) {
-        if is_of(order, strategy, buy) {
-            return Some(order);
-        }
-        place += 1;
-    }
-    None
+    orders
+        .entries()
+        .iter()
+        .find(|order| is_of(**order, strategy, buy))
+        .copied()
 }
 
 // The order of a number.
