@@ -1,17 +1,10 @@
 // The orders at rest, by strategy and by number.
 ghost use Rattle.std.specs.Prelude.{◌≡◌};
 ghost use Rattle.ranked.specs.Held.{items, room};
-ghost use Rattle.rules.specs.Orders.{is_of, best_order, reduced, dropped, order_with};
+ghost use Rattle.rules.specs.Orders.{best_order, reduced, dropped, order_with};
 
 use ranked::RankedList;
 use rules::Order;
-
-// Whether an order is of the strategy, on that side.
-fn is_of(order: Order, strategy: u32, buy: bool) -> bool
-    ensures { result ≡ is_of strategy buy order }
-{
-    order.strategy == strategy && order.buy == buy
-}
 
 // The best buy or sell of a strategy: the first in rank.
 pub fn best_order(orders: &RankedList<Order>, strategy: u32, buy: bool) -> Option<Order>
@@ -20,7 +13,7 @@ pub fn best_order(orders: &RankedList<Order>, strategy: u32, buy: bool) -> Optio
     orders
         .entries()
         .iter()
-        .find(|order| is_of(**order, strategy, buy))
+        .find(|order| order.strategy == strategy && order.buy == buy)
         .copied()
 }
 
