@@ -31,7 +31,7 @@ fn leg(series: u32, bought: bool, ratio: u32) -> Leg {
 // Series 10 bought, series 11 sold.
 fn spread(ten: u32, eleven: u32) -> Result<Strategy, Reason> {
     let none = leg(0, false, 0);
-    Strategy::from_row(&StrategyRow {
+    Strategy::try_from(StrategyRow {
         count: 2,
         legs: [leg(10, true, ten), leg(11, false, eleven), none, none],
     })
@@ -102,7 +102,7 @@ fn the_greatest_nets_keep_their_sign(rt: HostRuntime) -> Result<(), Fail> {
             leg(3, false, 7),
         ],
     };
-    let strategy = Strategy::from_row(&row)?;
+    let strategy = Strategy::try_from(row)?;
     let Some(market) = market_of(&mut board, &strategy) else {
         assert!(rt; false);
         return Ok(());

@@ -1,6 +1,7 @@
 -- Rows of strategies: the first so many, the same legs, one strategy more.
-use Rattle.std.proofs.Common.{◌≡◌, ℕ, zero, suc, ◌+◌, ◌<◌, ◌≤◌, Bool, true, false, ◌&&◌, ◌||◌, List, [], ◌∷◌, ◌++◌, length, get_or, take, drop, set, Some, None, Result, sym, refl, ap, ◌∙◌, arith}
+use Rattle.std.proofs.Common.{◌≡◌, ℕ, zero, suc, ◌+◌, ◌<◌, ◌≤◌, Bool, true, false, ◌&&◌, ◌||◌, List, [], ◌∷◌, ◌++◌, length, get_or, take, drop, set, Some, None, Ok, Err, Result, sym, refl, ap, ◌∙◌, arith}
 use Rattle.std.specs.List.{slice_get}
+use Rattle.std.specs.Option.{option_map}
 use Rattle.std.specs.Result.{result_ok}
 use Rattle.std.proofs.lemmas.List.{drop_more, drop_all, take_more_set}
 use Rattle.refusals.specs.declared.reason.Reason.{Reason}
@@ -9,7 +10,7 @@ use Rattle.strategies.specs.declared.row.StrategyRow.{StrategyRow}
 use Rattle.strategies.specs.declared.strategy.Strategy.{Strategy}
 use Rattle.strategies.specs.Legs.{blank}
 use Rattle.strategies.specs.Rows.{row_legs}
-use Rattle.strategies.specs.Strategies.{checked, legs_made}
+use Rattle.strategies.specs.Strategies.{strategy_legs, checked, legs_made}
 use Rattle.rules.specs.States.{legs_in, strategy_at, same_leg, same_legs, stands_among}
 
 -- the first so many, taken once more
@@ -76,6 +77,7 @@ module _ (rows : List StrategyRow) (n : ℕ) where
   unfolding strategy_at
   strategy_none e = ap legs_in e
 
-  pub strategy_some : (row : StrategyRow) (r : Result Strategy Reason) → Some row ≡ slice_get rows n → legs_made r ≡ checked row → result_ok (legs_made r) ≡ strategy_at rows n
+  pub strategy_some : (row : StrategyRow) (r : Result Strategy Reason) → Some row ≡ slice_get rows n → legs_made r ≡ checked row → option_map strategy_legs (result_ok r) ≡ strategy_at rows n
   unfolding strategy_at
-  strategy_some row r e made = ap result_ok made ∙ ap legs_in e
+  strategy_some row (Ok s) e made = ap result_ok made ∙ ap legs_in e
+  strategy_some row (Err why) e made = ap result_ok made ∙ ap legs_in e

@@ -43,7 +43,7 @@ impl<'a> Engine<'a> {
         if !self.is_ready() {
             return Some(Refusal::at(Station::Opening, Reason::Memory));
         }
-        if let Some(why) = row.fault() {
+        if let Err(why) = row.check() {
             return Some(Refusal::at(Station::Define, why));
         }
         if self.table.stands(row) {

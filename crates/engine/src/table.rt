@@ -123,10 +123,7 @@ impl StrategyTable {
         ensures { option_map strategy_legs result ≡ strategy_at (rows_of self.now) number }
     {
         let row = self.row(number as usize)?;
-        match Strategy::from_row(&row) {
-            Ok(strategy) => Some(strategy),
-            Err(_) => None,
-        }
+        Strategy::try_from(row).ok()
     }
 
     // Whether a strategy of the row's legs is defined.

@@ -1,6 +1,6 @@
 -- A row breaks no rule exactly where it is lawful.
-use Rattle.std.proofs.Common.{◌≡◌, ℕ, ◌≤◌, Bool, true, false, cond, ◌&&◌, leb, length, Some, None, Option, refl, ap, ◌∙◌, arith}
-use Rattle.std.proofs.lemmas.Bool.{leb-true, and_parts, and_from}
+use Rattle.std.proofs.Common.{◌≡◌, ℕ, ◌≤◌, Bool, true, false, cond, ◌&&◌, leb, length, is_some, Some, None, Option, refl, ap, ◌∙◌, arith}
+use Rattle.std.proofs.lemmas.Bool.{leb-true, and_parts, and_from, both_ways, false≢true}
 use Rattle.refusals.specs.declared.reason.Reason.{Reason}
 use Rattle.refusals.specs.declared.reason.Reason.TheVariants.{LegCount, Series, Ratio}
 use Rattle.strategies.specs.declared.row.StrategyRow.{StrategyRow}
@@ -42,11 +42,11 @@ row_lawful r all h =
     }
 
 -- an answer that names a rule
-pub exactly_some : (r : StrategyRow) (why : Reason) → Some why ≡ row_fault r → Exactly (Some why ≡ None) (LawfulRow r)
-exactly_some r why h = (λ e. let z : ◌≡◌ {A = ℕ} 0 1 = cc in absurd (omega arith), λ law. h ∙ row_stands r law)
+pub exactly_some : (r : StrategyRow) (why : Reason) → Some why ≡ row_fault r → Exactly (false ≡ true) (LawfulRow r)
+exactly_some r why h = (λ e. absurd (false≢true e), λ law. let z : Some why ≡ None = h ∙ row_stands r law in absurd (both_ways (is_some (Some why)) (ap is_some z) refl))
 
 -- an answer that names none
-pub exactly_none : (r : StrategyRow) → length (row_legs r) ≡ r.count → None ≡ row_fault r → Exactly (◌≡◌ {A = Option Reason} None None) (LawfulRow r)
+pub exactly_none : (r : StrategyRow) → length (row_legs r) ≡ r.count → None ≡ row_fault r → Exactly (true ≡ true) (LawfulRow r)
 exactly_none r all h = (λ _. row_lawful r all h, λ _. refl)
 
 -- what each test says of the rule that is broken first

@@ -1,34 +1,22 @@
 -- Which numbers divide all ratios.
-use Rattle.std.proofs.Common.{◌≡◌, ℕ, zero, suc, ◌+◌, ◌-◌, ◌*◌, ◌/◌, ◌%◌, ◌<◌, ◌≤◌, true, false, eqb, List, [], ◌∷◌, length, Decides, refl, ap, ◌∙◌, subst, inl, inr, suc-mul, div-add-mod', zero-mul, arith}
+use Rattle.std.proofs.Common.{◌≡◌, ℕ, zero, suc, ◌-◌, ◌*◌, ◌/◌, ◌%◌, ◌<◌, ◌≤◌, true, false, eqb, List, [], ◌∷◌, length, get_or, Decides, refl, ap, ◌∙◌, subst, inl, inr, suc-mul, div-add-mod', zero-mul, arith}
 use native.Mathlib.Nat.{mul-mod_left}
-use Rattle.std.specs.List.{AllByRecursion}
-use Rattle.std.proofs.lemmas.Bool.{cases_Bool, both_ways, eqb-true, eq-eqb, or_from}
-use Rattle.std.proofs.lemmas.Bool.Decides.{Decides-below_or}
+use Rattle.std.specs.List.{AllByRecursion, range_with_len}
+use Rattle.std.proofs.lemmas.List.Folds.{list_any_at, Any-from_list_any}
+use Rattle.std.proofs.lemmas.List.FromFn.{get_or-range_with_len}
+use Rattle.std.proofs.lemmas.Bool.{cases_Bool, both_ways, eqb-true, eq-eqb}
 use Rattle.std.proofs.ByRecursion.{Decides-by_and}
 use Rattle.strategies.specs.declared.leg.Leg.{Leg}
 use Rattle.strategies.specs.Limits.{highest_ratio}
-use Rattle.strategies.specs.Legs.{divides_all, one_divides, share_divisor}
+use Rattle.strategies.specs.Legs.{divides_all, share_divisor}
 use Rattle.strategies.specs.Lawful.{RatioFits, Divides}
-
--- one of n numbers, from 2 on, divides all ratios exactly where the test says so
-pub one_tells : (n : ℕ) (ls : List Leg) → Decides (one_divides n ls) ((k : ℕ) × (k < n) × (divides_all (suc (suc k)) ls ≡ true))
-one_tells n ls =
-    Decides-below_or (λ k. divides_all (suc (suc k)) ls) (λ k. divides_all (suc (suc k)) ls ≡ true) (λ m. one_divides m ls) (λ _. (λ e. e, λ e. e)) refl (λ _. refl) n
 
 -- a number from 2 to 8 that divides all ratios is found
 pub divisor_found : (n : ℕ) (ls : List Leg) → 2 ≤ n → n ≤ highest_ratio → divides_all n ls ≡ true → share_divisor ls ≡ true
 divisor_found n ls low high e =
-    let k = n - 2 in
-    let is : n ≡ suc (suc k) = omega arith in
-    (one_tells (highest_ratio - 1) ls).1 (k, omega arith, subst (λ m. divides_all m ls ≡ true) is e)
-
--- one more number does not
-pub divisor_more : (n : ℕ) (ls : List Leg) → 2 ≤ n → one_divides (n - 2) ls ≡ false → divides_all n ls ≡ false → one_divides (n + 1 - 2) ls ≡ false
-divisor_more n ls low none e =
-    let k = n - 2 in
-    let is : n ≡ suc (suc k) = omega arith in
-    let next : n + 1 - 2 ≡ suc k = omega arith in
-    ap (λ m. one_divides m ls) next ∙ or_from (divides_all (suc (suc k)) ls) (one_divides k ls) (subst (λ m. divides_all m ls ≡ false) is e) none
+    let at = get_or-range_with_len 2 (highest_ratio - 1) (n - 2) 0 (omega arith) in
+    let is : n ≡ get_or (range_with_len 2 (highest_ratio - 1)) (n - 2) 0 = omega arith in
+    list_any_at (λ m. divides_all m ls) (range_with_len 2 (highest_ratio - 1)) (n - 2) 0 (omega arith) (subst (λ m. divides_all m ls ≡ true) is e)
 
 -- a remainder of 0 is what divides says
 divides_one : (n m : ℕ) → Decides (eqb (m % n) 0) (Divides n m)
@@ -57,6 +45,10 @@ lowest_if (l ∷ ls) some fits none n above all =
 pub lowest_only : (ls : List Leg) → ((n : ℕ) → 1 < n → AllByRecursion (λ l. Divides n l.ratio) ls → ⊥) → share_divisor ls ≡ false
 lowest_only ls lowest =
     elim (cases_Bool (share_divisor ls)) [
-      | inl e ↦ let found = (one_tells (highest_ratio - 1) ls).0 e in absurd (lowest (suc (suc found.0)) (omega arith) ((divides_tells (suc (suc found.0)) ls).0 found.2))
+      | inl e ↦
+          let found = Any-from_list_any (λ m. divides_all m ls) (range_with_len 2 (highest_ratio - 1)) e in
+          let at = get_or-range_with_len 2 (highest_ratio - 1) found.0 found.1 found.2 in
+          let same = found.3 in
+          absurd (lowest found.1 (omega arith) ((divides_tells found.1 ls).0 found.4))
       | inr e ↦ e
     ]

@@ -1,97 +1,101 @@
--- What a walk over legs has found, by what the legs that are left give.
-use Rattle.std.proofs.Common.{◌≡◌, ℕ, ◌+◌, ◌%◌, ◌<◌, ◌≤◌, min, max, Bool, true, false, ◌&&◌, eqb, leb, List, [], ◌∷◌, length, get_or, drop, sym, refl, ap, ◌∙◌, arith}
-use Rattle.std.proofs.lemmas.List.{at_drop_more, at_drop_all}
+-- What a pass over legs has found, in the words of the library.
+use native.Mathlib.Numerals.{unary_clauses}
+use Rattle.std.proofs.Common.{◌≡◌, ℕ, suc, ◌+◌, ◌-◌, ◌<◌, ◌≤◌, min, max, Bool, true, false, ◌&&◌, leb, ltb, List, [], ◌∷◌, length, map, get_or, Option, refl, sym, ap, subst, ◌∙◌, inl, inr, arith}
+use Rattle.std.specs.List.{fold, reduce, list_all, range_with_len, AllAdjacentBelow, IsAllAdjacentAnswer}
+use Rattle.std.specs.Option.{unwrap_or}
+use Rattle.std.specs.Range.{range_inclusive_len, range_inclusive_left, range_inclusive_steps}
+use Rattle.std.specs.declared.ops.RangeInclusive.{RangeInclusive}
 use Rattle.std.proofs.lemmas.Int.{clamps}
-use Rattle.std.proofs.lemmas.Bool.{le-leb, lt-leb, eq-eqb, ne_eqb, and_from, and_left, and_right}
+use Rattle.std.proofs.lemmas.Bool.{le-leb, ltb-true, lt-ltb, and_parts, and_from, cases_Bool, both_ways}
+use Rattle.std.proofs.lemmas.List.FromFn.{length-range_with_len}
+use Rattle.std.proofs.lemmas.Iterator.{YieldsList}
+use Rattle.std.proofs.lemmas.Iterator.Consumers.{YieldsList-from_shown}
 use Rattle.simple.specs.Limits.{last_series}
 use Rattle.strategies.specs.declared.leg.Leg.{Leg}
 use Rattle.strategies.specs.Limits.{highest_ratio}
-use Rattle.strategies.specs.Legs.{blank, rising_from, ratio_fits, ratios_fit, largest, smallest, divides_all}
+use Rattle.strategies.specs.Legs.{blank, rising_from, largest, smallest}
+use Rattle.strategies.proofs.Tests.{rises_if}
+use Rattle.strategies.proofs.Places.{rising_places}
 
--- f tests the first leg, and then the others by what the first was
-module _ (f : List Leg → Bool) (g : Leg → List Leg → Bool) (test : Leg → Bool) (more : (l : Leg) (ls : List Leg) → f (l ∷ ls) ≡ (test l && g l ls)) where
-  -- a walk has come to the leg at i
-  module _ (ls : List Leg) (i : ℕ) (all : Bool) (so : f (drop i ls) ≡ all) (lt : i < length ls) where
-    at_leg : (b : Bool) → test (get_or ls i blank) ≡ b → (b && g (get_or ls i blank) (drop (i + 1) ls)) ≡ all
-    at_leg b t =
-        ap (λ v. v && g (get_or ls i blank) (drop (i + 1) ls)) (sym t)
-        ∙ sym (more (get_or ls i blank) (drop (i + 1) ls)) ∙ sym (at_drop_more f ls i blank lt) ∙ so
+-- the series of a leg is at most the last one
+abbrev listed : Leg → Bool
+listed l = leb l.series last_series
 
-    -- which passes
-    passes : test (get_or ls i blank) ≡ true → g (get_or ls i blank) (drop (i + 1) ls) ≡ all
-    passes = at_leg true
+-- each series is listed and below the next
+rises : (s : ℕ) (ls : List Leg) → list_all listed ls ≡ true → ((d : Leg) → 0 < length ls → s ≤ (get_or ls 0 d).series) → AllAdjacentBelow (λ a b. true ≡ ltb a.series b.series) ls (length ls) → rising_from s ls ≡ true
+rises s [] all first next = refl
+rises s (l ∷ ls) all first next =
+    let own = and_parts (listed l) (list_all listed ls) all in
+    and_from (leb s l.series && listed l) (rising_from (l.series + 1) ls)
+    (and_from (leb s l.series) (listed l) (le-leb s l.series (first blank (omega arith))) own.0)
+    (rises (l.series + 1) ls own.1 (λ d some. let up = ltb-true l.series (get_or ls 0 d).series (sym (next 0 d (omega arith))) in omega arith) (λ k d lt. let up = next (k + 1) d (omega arith) in let told = simp unary_clauses at up in simp unary_clauses told))
 
-    -- which fails
-    fails : test (get_or ls i blank) ≡ false → false ≡ all
-    fails = at_leg false
+pub series_rising : (ls : List Leg) (all r : Bool) → all ≡ true → all ≡ list_all listed ls → IsAllAdjacentAnswer (λ a b t. t ≡ ltb a.series b.series) ls r → r ≡ rising_from 0 ls
+series_rising ls all true yes' is next = sym (rises 0 ls (sym is ∙ yes') (λ d some. omega arith) next)
+series_rising ls all false yes' is fall =
+    elim (cases_Bool (rising_from 0 ls)) [
+      | inl e ↦
+          let up = rising_places ls (rises_if 0 ls e).2 fall.0 (fall.0 + 1) blank (omega arith) fall.1 in
+          absurd (both_ways _ (sym (fall.2 blank)) (lt-ltb _ _ up))
+      | inr e ↦ sym e
+    ]
 
--- no leg is left
-pub walk_end : (f : List Leg → Bool) (ls : List Leg) (i : ℕ) (all : Bool) → f [] ≡ true → f (drop i ls) ≡ all → length ls ≤ i → true ≡ all
-walk_end f ls i all none so past = sym none ∙ sym (at_drop_all f ls i past) ∙ so
+-- some series is not listed
+listed_only : (s : ℕ) (ls : List Leg) → rising_from s ls ≡ true → list_all listed ls ≡ true
+listed_only s [] h = refl
+listed_only s (l ∷ ls) h =
+    let both = and_parts (leb s l.series && listed l) (rising_from (l.series + 1) ls) h in
+    and_from (listed l) (list_all listed ls) (and_parts (leb s l.series) (listed l) both.0).1 (listed_only (l.series + 1) ls both.1)
 
--- the series of a leg
-module _ (s : ℕ) (ls : List Leg) (i : ℕ) (all : Bool) (so : rising_from s (drop i ls) ≡ all) (lt : i < length ls) where
-  abbrev listed : Leg → Bool
-  listed l = leb s l.series && leb l.series last_series
+pub series_unlisted : (ls : List Leg) (all : Bool) → all ≡ false → all ≡ list_all listed ls → all ≡ rising_from 0 ls
+series_unlisted ls all no' is =
+    elim (cases_Bool (rising_from 0 ls)) [
+      | inl e ↦ absurd (both_ways (list_all listed ls) (sym is ∙ no') (listed_only 0 ls e))
+      | inr e ↦ no' ∙ sym e
+    ]
 
-  stops : listed (get_or ls i blank) ≡ false → false ≡ all
-  stops = fails (rising_from s) (λ l. rising_from (l.series + 1)) listed (λ _ _. refl) ls i all so lt
+-- the numbers of an inclusive range
+abbrev inclusive_steps : RangeInclusive ℕ → Option ℕ → RangeInclusive ℕ → Type 0
+inclusive_steps = range_inclusive_steps (λ a b. b - a) (λ a b. b ≡ a + 1)
 
-  pub rising_on : s ≤ (get_or ls i blank).series → (get_or ls i blank).series ≤ last_series → rising_from ((get_or ls i blank).series + 1) (drop (i + 1) ls) ≡ all
-  rising_on low high =
-      let at = (get_or ls i blank).series in
-      passes (rising_from s) (λ l. rising_from (l.series + 1)) listed (λ _ _. refl) ls i all so lt (and_from (leb s at) (leb at last_series) (le-leb s at low) (le-leb at last_series high))
+abbrev gap : ℕ → ℕ → ℕ
+gap a b = b - a
 
-  pub rising_low : (get_or ls i blank).series < s → false ≡ all
-  rising_low low = let at = (get_or ls i blank).series in stops (and_left (leb s at) (leb at last_series) (lt-leb s at low))
+abbrev numbers : ℕ → ℕ → Bool → List ℕ
+numbers a b spent = range_with_len a (range_inclusive_len gap a b spent)
 
-  pub rising_high : last_series < (get_or ls i blank).series → false ≡ all
-  rising_high high = let at = (get_or ls i blank).series in stops (and_right (leb s at) (leb at last_series) (lt-leb at last_series high))
+next_numbers : (a s b : ℕ) (spent : Bool) → (spent ≡ false → s ≡ a + 1) → range_with_len (a + 1) (range_inclusive_len gap s b spent) ≡ numbers s b spent
+next_numbers a s b true next = refl
+next_numbers a s b false next = ap (λ m. range_with_len m (range_inclusive_len gap s b false)) (sym (next refl))
 
--- the ratio of a leg, by its own bounds
-module _ (ls : List Leg) (i : ℕ) (all : Bool) (so : ratios_fit (drop i ls) ≡ all) (lt : i < length ls) where
-  pub fits_on : 1 ≤ (get_or ls i blank).ratio → (get_or ls i blank).ratio ≤ highest_ratio → ratios_fit (drop (i + 1) ls) ≡ all
-  fits_on low high =
-      let at = (get_or ls i blank).ratio in
-      passes ratios_fit (λ _. ratios_fit) ratio_fits (λ _ _. refl) ls i all so lt (and_from (leb 1 at) (leb at highest_ratio) (le-leb 1 at low) (le-leb at highest_ratio high))
+inclusive : (s : RangeInclusive ℕ) → YieldsList inclusive_steps (λ x. x) s (numbers s.start s.end s.exhausted)
+inclusive =
+    YieldsList-from_shown inclusive_steps (λ x. x) (λ s. numbers s.start s.end s.exhausted)
+    (λ s t st. let none = st.1.0 in let n = length-range_with_len s.start (range_inclusive_left gap s) in omega arith)
+    (λ s x t st.
+    let first = st.1.0 in
+    let more : range_inclusive_left gap s ≡ suc (range_inclusive_left gap t) = omega (arith, st.1.1) in
+    ap (range_with_len s.start) more ∙ ap (λ xs. s.start ∷ xs) (next_numbers s.start t.start t.end t.exhausted st.1.2) ∙ ap (λ y. y ∷ numbers t.start t.end t.exhausted) (sym first))
 
-  pub fits_low : (get_or ls i blank).ratio < 1 → false ≡ all
-  fits_low low =
-      let at = (get_or ls i blank).ratio in
-      fails ratios_fit (λ _. ratios_fit) ratio_fits (λ _ _. refl) ls i all so lt (and_left (leb 1 at) (leb at highest_ratio) (lt-leb 1 at low))
+pub two_to_eight : {s : RangeInclusive ℕ} → s.start ≡ 2 → s.end ≡ highest_ratio → s.exhausted ≡ false → YieldsList inclusive_steps (λ x. x) s (range_with_len 2 (highest_ratio - 1))
+two_to_eight {s} low high fresh =
+    let is : numbers s.start s.end s.exhausted ≡ range_with_len 2 (highest_ratio - 1) = rw (low, high, fresh) in
+    subst (YieldsList inclusive_steps (λ x. x) s) is (inclusive s)
 
-  pub fits_high : highest_ratio < (get_or ls i blank).ratio → false ≡ all
-  fits_high high =
-      let at = (get_or ls i blank).ratio in
-      fails ratios_fit (λ _. ratios_fit) ratio_fits (λ _ _. refl) ls i all so lt (and_right (leb 1 at) (leb at highest_ratio) (lt-leb at highest_ratio high))
+-- the largest of a number and of the ratios
+largest_fold : (n : ℕ) (ls : List Leg) → fold max n (map (λ l. l.ratio) ls) ≡ max n (largest ls)
+largest_fold n [] = omega (arith, clamps)
+largest_fold n (l ∷ ls) = let rest = largest_fold (max n l.ratio) ls in omega (arith, clamps)
 
--- the ratio of a leg, by a divisor
-module _ (n : ℕ) (ls : List Leg) (i : ℕ) (all : Bool) (so : divides_all n (drop i ls) ≡ all) (lt : i < length ls) where
-  pub divides_on : (get_or ls i blank).ratio % n ≡ 0 → divides_all n (drop (i + 1) ls) ≡ all
-  divides_on yes' =
-      passes (divides_all n) (λ _. divides_all n) (λ l. eqb (l.ratio % n) 0) (λ _ _. refl) ls i all so lt (eq-eqb ((get_or ls i blank).ratio % n) 0 yes')
+-- and of the ratios alone
+pub largest_found : (ls : List Leg) → unwrap_or (reduce max (map (λ l. l.ratio) ls)) 0 ≡ largest ls
+largest_found [] = refl
+largest_found (l ∷ ls) = largest_fold l.ratio ls
 
-  pub divides_not : ((get_or ls i blank).ratio % n ≡ 0 → ⊥) → false ≡ all
-  divides_not no' =
-      fails (divides_all n) (λ _. divides_all n) (λ l. eqb (l.ratio % n) 0) (λ _ _. refl) ls i all so lt (ne_eqb ((get_or ls i blank).ratio % n) 0 no')
-
--- the largest and the smallest ratio, of what was found and what is left
-module _ (ls : List Leg) (i : ℕ) (found next all : ℕ) where
-  pub largest_more : max found (largest (drop i ls)) ≡ all → i < length ls → next ≡ max (get_or ls i blank).ratio found → max next (largest (drop (i + 1) ls)) ≡ all
-  largest_more so lt is =
-      let more : largest (drop i ls) ≡ max (get_or ls i blank).ratio (largest (drop (i + 1) ls)) = at_drop_more largest ls i blank lt in
-      omega (arith, clamps)
-
-  pub smallest_more : min found (smallest (drop i ls)) ≡ all → i < length ls → next ≡ min (get_or ls i blank).ratio found → min next (smallest (drop (i + 1) ls)) ≡ all
-  smallest_more so lt is =
-      let more : smallest (drop i ls) ≡ min (get_or ls i blank).ratio (smallest (drop (i + 1) ls)) = at_drop_more smallest ls i blank lt in
-      omega (arith, clamps)
-
-pub largest_end : (ls : List Leg) (i found all : ℕ) → max found (largest (drop i ls)) ≡ all → length ls ≤ i → found ≡ all
-largest_end ls i found all so past = let none : largest (drop i ls) ≡ 0 = at_drop_all largest ls i past in omega (arith, clamps)
-
-pub smallest_end : (ls : List Leg) (i found all : ℕ) → found ≤ highest_ratio → min found (smallest (drop i ls)) ≡ all → length ls ≤ i → found ≡ all
-smallest_end ls i found all within so past = let none : smallest (drop i ls) ≡ highest_ratio = at_drop_all smallest ls i past in omega (arith, clamps)
+-- the smallest of a number and of the ratios
+pub smallest_fold : (n : ℕ) (ls : List Leg) → n ≤ highest_ratio → fold (λ m l. min m l.ratio) n ls ≡ min n (smallest ls)
+smallest_fold n [] low = omega (arith, clamps)
+smallest_fold n (l ∷ ls) low = let rest = smallest_fold (min n l.ratio) ls (omega (arith, clamps)) in omega (arith, clamps)
 
 -- the smallest ratio is within the bounds of a ratio
 pub smallest_within : (ls : List Leg) → smallest ls ≤ highest_ratio

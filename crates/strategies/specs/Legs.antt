@@ -1,5 +1,6 @@
 -- The tests that the legs of a strategy pass.
-use Rattle.std.specs.Prelude.{ℕ, zero, suc, ◌+◌, ◌-◌, ◌*◌, ◌%◌, min, max, Bool, true, false, not, ◌&&◌, ◌||◌, List, [], ◌∷◌, length, ◌==◌, nat_le}
+use Rattle.std.specs.Prelude.{ℕ, ◌+◌, ◌-◌, ◌*◌, ◌%◌, min, max, Bool, true, false, not, ◌&&◌, List, [], ◌∷◌, length, ◌==◌, nat_le}
+use Rattle.std.specs.List.{list_all, list_any, range_with_len}
 use Rattle.simple.specs.Limits.{last_series}
 use Rattle.strategies.specs.declared.leg.Leg.{Leg}
 use Rattle.strategies.specs.Limits.{fewest_legs, most_legs, highest_ratio, ratio_spread}
@@ -19,8 +20,7 @@ ratio_fits l = nat_le 1 l.ratio && nat_le l.ratio highest_ratio
 
 -- each ratio is
 abbrev pub ratios_fit : List Leg → Bool
-ratios_fit [] = true
-ratios_fit (l ∷ ls) = ratio_fits l && ratios_fit ls
+ratios_fit = list_all ratio_fits
 
 -- the largest ratio
 abbrev pub largest : List Leg → ℕ
@@ -38,17 +38,11 @@ ratios_near ls = nat_le (largest ls) (ratio_spread * smallest ls)
 
 -- n divides all ratios
 abbrev pub divides_all : ℕ → List Leg → Bool
-divides_all n [] = true
-divides_all n (l ∷ ls) = l.ratio % n == 0 && divides_all n ls
-
--- one of n numbers, from 2 on, divides all ratios
-abbrev pub one_divides : ℕ → List Leg → Bool
-one_divides zero ls = false
-one_divides (suc n) ls = divides_all (suc (suc n)) ls || one_divides n ls
+divides_all n = list_all (λ l. l.ratio % n == 0)
 
 -- one of the numbers from 2 to 8 divides all ratios; a higher one divides none of them
 abbrev pub share_divisor : List Leg → Bool
-share_divisor ls = one_divides (highest_ratio - 1) ls
+share_divisor ls = list_any (λ n. divides_all n ls) (range_with_len 2 (highest_ratio - 1))
 
 -- each ratio is 1 to 8, all are near, and no number above 1 divides all
 abbrev pub ratios_lawful : List Leg → Bool

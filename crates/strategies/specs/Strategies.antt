@@ -1,5 +1,5 @@
 -- The legs of a strategy, and what comes of a row.
-use Rattle.std.specs.Prelude.{List, take, Some, None, Ok, Err, Option, Result}
+use Rattle.std.specs.Prelude.{List, Some, None, Ok, Err, Option, Result}
 use Rattle.refusals.specs.declared.reason.Reason.{Reason}
 use Rattle.strategies.specs.declared.leg.Leg.{Leg}
 use Rattle.strategies.specs.declared.row.StrategyRow.{StrategyRow}
@@ -8,7 +8,7 @@ use Rattle.strategies.specs.Rows.{row_legs, row_fault}
 
 -- the legs of a strategy, in order
 abbrev pub strategy_legs : Strategy → List Leg
-strategy_legs s = take s.count s.legs
+strategy_legs s = row_legs s.row
 
 -- the legs, or the rule that they break
 abbrev pub legs_or : Option Reason → List Leg → Result (List Leg) Reason

@@ -11,37 +11,23 @@ use simple::LAST_SERIES;
 pub(crate) fn series_rise(legs: &[Leg]) -> bool
     ensures { result ≡ rising_from 0 legs.now }
 {
-    let mut least = 0;
-    for leg in legs {
-        if leg.series < least || leg.series > LAST_SERIES {
-            return false;
-        }
-        least = leg.series + 1;
-    }
-    true
+    legs.iter().all(|leg| leg.series <= LAST_SERIES)
+        && legs.is_sorted_by(|leg, next| leg.series < next.series)
 }
 
 // Whether each ratio is 1 to 8.
 fn ratios_fit(legs: &[Leg]) -> bool
     ensures { result ≡ ratios_fit legs.now }
 {
-    for leg in legs {
-        if leg.ratio == 0 || leg.ratio > HIGHEST_RATIO {
-            return false;
-        }
-    }
-    true
+    legs.iter()
+        .all(|leg| (1..=HIGHEST_RATIO).contains(&leg.ratio))
 }
 
 // The largest ratio.
 fn largest(legs: &[Leg]) -> u32
     ensures { result ≡ largest legs.now }
 {
-    let mut most = 0;
-    for leg in legs {
-        most = leg.ratio.max(most);
-    }
-    most
+    legs.iter().map(|leg| leg.ratio).max().unwrap_or(0)
 }
 
 // The smallest ratio, or 8 where none is below.
@@ -49,11 +35,8 @@ fn smallest(legs: &[Leg]) -> u32
     ensures value { result ≡ smallest legs.now }
     ensures within { result ≤ highest_ratio }
 {
-    let mut least = HIGHEST_RATIO;
-    for leg in legs {
-        least = leg.ratio.min(least);
-    }
-    least
+    legs.iter()
+        .fold(HIGHEST_RATIO, |least, leg| least.min(leg.ratio))
 }
 
 // Whether the largest ratio does not exceed three times the smallest.
@@ -68,24 +51,14 @@ fn divides_all(n: u32, legs: &[Leg]) -> bool
     requires { 2 ≤ n }
     ensures { result ≡ divides_all n legs.now }
 {
-    for leg in legs {
-        if leg.ratio % n != 0 {
-            return false;
-        }
-    }
-    true
+    legs.iter().all(|leg| leg.ratio % n == 0)
 }
 
 // Whether a number above 1 divides all ratios; none above 8 does.
 fn share_divisor(legs: &[Leg]) -> bool
     ensures { result ≡ share_divisor legs.now }
 {
-    for n in 2..HIGHEST_RATIO + 1 {
-        if divides_all(n, legs) {
-            return true;
-        }
-    }
-    false
+    (2..=HIGHEST_RATIO).any(|n| divides_all(n, legs))
 }
 
 // Whether each ratio is 1 to 8, all are near, and no number above 1 divides all.

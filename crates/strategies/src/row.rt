@@ -1,5 +1,6 @@
 // Rows of legs, as they come, and the rule that one breaks.
-ghost use Rattle.std.specs.Prelude.{◌≡◌, ◌≤◌, length, None};
+ghost use Rattle.std.specs.Prelude.{◌≡◌, ◌≤◌, true, length, is_ok};
+ghost use Rattle.std.specs.Result.{result_err};
 ghost use Rattle.strategies.specs.Limits.{most_legs};
 ghost use Rattle.strategies.specs.Lawful.{Exactly};
 ghost use Rattle.strategies.specs.Rows.{row_legs, row_fault, LawfulRow};
@@ -10,6 +11,7 @@ use crate::limits::{FEWEST_LEGS, LEG_PLACES, MOST_LEGS};
 use refusals::Reason;
 
 // Legs that may be lawful or not; those beyond the count are ignored.
+// An array with a count, and no Vec: the crates of the engine have fixed memory.
 #[derive(Clone, Copy, PartialEq, Eq, Debug)]
 pub struct StrategyRow {
     pub count: u32,
@@ -17,26 +19,26 @@ pub struct StrategyRow {
 }
 
 impl StrategyRow {
-    // The first rule that the row breaks, or nothing where it is lawful.
-    pub fn fault(&self) -> Option<Reason>
-        ensures answer { result ≡ row_fault self.now }
-        ensures accepted { Exactly (result ≡ None) (LawfulRow self.now) }
+    // The first rule that the row breaks, where it is not lawful.
+    pub fn check(&self) -> Result<(), Reason>
+        ensures answer { result_err result ≡ row_fault self.now }
+        ensures accepted { Exactly (is_ok result ≡ true) (LawfulRow self.now) }
     {
         if self.count < FEWEST_LEGS || self.count > MOST_LEGS {
-            return Some(Reason::LegCount);
+            return Err(Reason::LegCount);
         }
         let legs = self.counted();
         if !series_rise(legs) {
-            return Some(Reason::Series);
+            return Err(Reason::Series);
         }
         if !ratios_lawful(legs) {
-            return Some(Reason::Ratio);
+            return Err(Reason::Ratio);
         }
-        None
+        Ok(())
     }
 
     // The legs that the row counts.
-    fn counted(&self) -> &[Leg]
+    pub(crate) fn counted(&self) -> &[Leg]
         requires { self.now.count ≤ most_legs }
         ensures value { result.now ≡ row_legs self.now }
         ensures all { length result.now ≡ self.now.count }

@@ -9,27 +9,25 @@ use crate::row::StrategyRow;
 use crate::strategy::Strategy;
 use refusals::Reason;
 
-impl Strategy {
-    // The strategy of a row, or the first rule that the row breaks.
-    pub fn from_row(row: &StrategyRow) -> Result<Strategy, Reason>
-        ensures answer { legs_made result ≡ checked row.now }
-        ensures lawful { Exactly (is_ok result ≡ true) (LawfulRow row.now) }
-    {
-        match row.fault() {
-            Some(reason) => Err(reason),
-            None => Ok(Strategy {
-                legs: row.legs,
-                count: row.count as usize,
-            }),
-        }
-    }
+// The strategy of a row, or the first rule that the row breaks.
+impl TryFrom<StrategyRow> for Strategy {
+    type Error = Reason;
 
+    ghost try_from_gives = { λ row made. (legs_made made ≡ checked row) × Exactly (is_ok made ≡ true) (LawfulRow row) };
+
+    fn try_from(row: StrategyRow) -> Result<Strategy, Reason> {
+        row.check()?;
+        Ok(Strategy { row })
+    }
+}
+
+impl Strategy {
     // The legs, in order.
     pub fn legs(&self) -> &[Leg]
         ensures value { result.now ≡ strategy_legs self.now }
         ensures lawful { LawfulLegs result.now }
         ensures placed { PlacedLegs result.now }
     {
-        &self.legs[0..self.count]
+        self.row.counted()
     }
 }

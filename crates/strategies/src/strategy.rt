@@ -1,16 +1,12 @@
 // What a strategy is.
-ghost use Rattle.std.specs.Prelude.{◌≡◌, ◌≤◌, true, take};
-ghost use Rattle.strategies.specs.Limits.{most_legs};
-ghost use Rattle.strategies.specs.Legs.{lawful_test};
+ghost use Rattle.std.specs.Prelude.{◌≡◌, None};
+ghost use Rattle.strategies.specs.Rows.{row_fault};
 
-use crate::leg::Leg;
-use crate::limits::LEG_PLACES;
+use crate::row::StrategyRow;
 
-// Lawful legs: the first of its places, as many as it counts.
+// The legs of a lawful row.
 #[derive(Clone, Copy)]
 pub struct Strategy {
-    pub(crate) legs: [Leg; LEG_PLACES],
-    pub(crate) count: usize,
-    ghost few: { count ≤ most_legs },
-    ghost lawful: { lawful_test (take count legs) ≡ true },
+    pub(crate) row: StrategyRow,
+    ghost lawful: { row_fault row ≡ None },
 }

@@ -1,20 +1,21 @@
--- `series_rise`: each leg is tested against the one before.
-use Rattle.std.proofs.Common.{refl}
-use Rattle.strategies.specs.Legs.{rising_from}
-use Rattle.strategies.proofs.Walks.{rising_on, rising_low, rising_high, walk_end}
+-- `series_rise`: each series is listed, and each is below the next.
+use Rattle.std.proofs.Common.{rules, tests, leb, ltb}
+use Rattle.simple.specs.Limits.{last_series}
+use Rattle.std.proofs.lemmas.Fn.{always_returns_same}
+use Rattle.std.proofs.lemmas.Iterator.{YieldsList-from_slice}
+use Rattle.std.proofs.lemmas.Iterator.Search.{all_from_yields_List}
+use Rattle.strategies.proofs.Walks.{series_rising, series_unlisted}
 use Rattle.strategies.proofs.legs.series_rise.Goals as goal
-use Rattle.strategies.proofs.legs.series_rise.Goals.{then-leg-least-via-then-leg-least, then-leg-least-via-else-leg-least+then-leg-gt-LAST_SERIES}
 
-pub returns-then-leg-least : goal.returns-then-leg-least
-returns-then-leg-least c =
-    elim c.then-leg-least.branch [
-      | then-leg-least-via-then-leg-least w ↦ rising_low c.loop-leg.least c.args.legs.now c.loop-leg.leg-index _ c.loop-leg.invariant c.loop-leg-test.true w.if-leg-least.true
-      | then-leg-least-via-else-leg-least+then-leg-gt-LAST_SERIES w ↦ rising_high c.loop-leg.least c.args.legs.now c.loop-leg.leg-index _ c.loop-leg.invariant c.loop-leg-test.true w.if-leg-gt-LAST_SERIES.true
-    ]
+pub returns-then-all : goal.returns-then-all
+returns-then-all c =
+    let legs = c.args.legs.now in
+    let listed = all_from_yields_List (λ l. leb l.series last_series) _ _ c.all.result c.all.ensures.ran (YieldsList-from_slice legs cc) (λ x b q k. search (rules, tests)) in
+    let rising = c.is_sorted_by.ensures.cases (λ x y. ltb x.series y.series) (always_returns_same _ _ _ (λ a r q k. search (rules, tests))) in
+    series_rising legs c.all.result c.is_sorted_by.result c.if-all.true listed rising
 
-pub loop-leg-preserved : goal.loop-leg-preserved
-loop-leg-preserved c =
-    rising_on c.loop-leg.least c.args.legs.now c.loop-leg.leg-index _ c.loop-leg.invariant c.loop-leg-test.true c.if-leg-least.false c.if-leg-gt-LAST_SERIES.false
-
-pub returns : goal.returns
-returns c = walk_end (rising_from c.loop-leg.least) c.args.legs.now c.loop-leg.leg-index _ refl c.loop-leg.invariant c.loop-leg-test.false
+pub returns-else-all : goal.returns-else-all
+returns-else-all c =
+    let legs = c.args.legs.now in
+    let listed = all_from_yields_List (λ l. leb l.series last_series) _ _ c.all.result c.all.ensures.ran (YieldsList-from_slice legs cc) (λ x b q k. search (rules, tests)) in
+    series_unlisted legs c.all.result c.if-all.false listed

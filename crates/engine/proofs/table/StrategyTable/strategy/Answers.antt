@@ -1,5 +1,5 @@
 -- `strategy`: what comes of the row.
-use Rattle.std.proofs.Common.{Ok, Err, ap, ◌∙◌}
+use Rattle.std.proofs.Common.{ap, ◌∙◌}
 use Rattle.std.specs.Option.{option_map}
 use Rattle.strategies.specs.Strategies.{strategy_legs}
 use Rattle.engine.specs.Table.{rows_of}
@@ -9,8 +9,5 @@ use Rattle.engine.proofs.table.StrategyTable.strategy.Goals as goal
 pub returns-in_err-row : goal.returns-in_err-row
 returns-in_err-row c = ap (option_map strategy_legs) c.from_residual.ensures ∙ strategy_none (rows_of c.args.self.now) c.args.number c.in_err-row.ensures
 
-pub returns-in-Ok : goal.returns-in-Ok
-returns-in-Ok c = strategy_some (rows_of c.args.self.now) c.args.number c.in_ok-row.row (Ok c.in-Ok.strategy) c.in_ok-row.ensures c.in-Ok.ensures.answer
-
-pub returns-in-Err : goal.returns-in-Err
-returns-in-Err c = strategy_some (rows_of c.args.self.now) c.args.number c.in_ok-row.row (Err c.in-Err.field-0) c.in_ok-row.ensures c.in-Err.ensures.answer
+pub returns : goal.returns
+returns c = ap (option_map strategy_legs) c.ok.ensures.value ∙ strategy_some (rows_of c.args.self.now) c.args.number c.in_ok-row.row c.try_from.result c.in_ok-row.ensures c.try_from.ensures.0

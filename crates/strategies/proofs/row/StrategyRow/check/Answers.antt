@@ -1,9 +1,9 @@
--- `fault`: the first rule that is broken, and that none is exactly where the row is lawful.
+-- `check`: the first rule that is broken, and that none is exactly where the row is lawful.
 use Rattle.std.proofs.Common.{length, sym, ap, ◌∙◌, arith}
 use Rattle.refusals.specs.declared.reason.Reason.TheVariants.{Series, Ratio}
 use Rattle.strategies.specs.Legs.{rising_from, ratios_lawful}
 use Rattle.strategies.proofs.Checks.{series_fault, ratio_fault, no_fault, exactly_some, exactly_none}
-use Rattle.strategies.proofs.row.StrategyRow.fault.Goals as goal
+use Rattle.strategies.proofs.row.StrategyRow.check.Goals as goal
 
 pub returns-then-not-series_rise : goal.returns-then-not-series_rise
 returns-then-not-series_rise c =
