@@ -18,8 +18,8 @@ pub record Ended (legs : List Leg) (s : ℕ) (f : Stepped) (before after : List 
   pub records : v.records ≡ length f.executions
   pub outcome : v.outcome ≡ outcome_of legs s f f.left.orders
 
--- the order o that was accepted under the number n, where the steps of its strategy come to f
-pub record Carried (o : NewOrder) (n : ℕ) (legs : List Leg) (f : Stepped) (before after : List Execution) (left : Trading) (p : Placed) : Type 0 where
+-- the order o that was accepted under the number n, where the steps of the strategy s come to f
+pub record Carried (o : NewOrder) (n : ℕ) (legs : List Leg) (s : ℕ) (f : Stepped) (before after : List Execution) (left : Trading) (p : Placed) : Type 0 where
   pub list : after ≡ written_over f.executions before
   pub orders : left.orders ≡ kept o n f.left.orders
   pub lots : left.lots ≡ f.left.lots
@@ -27,4 +27,4 @@ pub record Carried (o : NewOrder) (n : ℕ) (legs : List Leg) (f : Stepped) (bef
   pub records : p.records ≡ length f.executions
   pub executed : p.executed ≡ o.quantity - left_of n f.left.orders
   pub cancelled : p.cancelled ≡ cond (is_immediate o.time_in_force) (left_of n f.left.orders) 0
-  pub outcome : p.outcome ≡ outcome_of legs o.strategy f (kept o n f.left.orders)
+  pub outcome : p.outcome ≡ outcome_of legs s f (kept o n f.left.orders)

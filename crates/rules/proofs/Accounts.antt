@@ -12,18 +12,16 @@ use Rattle.rules.proofs.Ready.{Ready}
 pub record Same (p o : Order) : Type 0 where
   pub strategy : p.strategy ≡ o.strategy
   pub buy : p.buy ≡ o.buy
-  pub market : p.market ≡ o.market
   pub limit : p.limit ≡ o.limit
   pub number : p.number ≡ o.number
 
 pub same_refl : (o : Order) → Same o o
-same_refl o = record { strategy = refl; buy = refl; market = refl; limit = refl; number = refl }
+same_refl o = record { strategy = refl; buy = refl; limit = refl; number = refl }
 
 pub same_trans : (o p r : Order) → Same o p → Same p r → Same o r
 same_trans o p r a b = record {
   strategy = a.strategy ∙ b.strategy;
   buy = a.buy ∙ b.buy;
-  market = a.market ∙ b.market;
   limit = a.limit ∙ b.limit;
   number = a.number ∙ b.number;
 }

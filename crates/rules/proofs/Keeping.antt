@@ -274,7 +274,6 @@ module _ (h : List Event) (s : State) (k : Known h s) where
             accepted = accepted_now h e x.number o (subst (λ m. Accepts e m o) (sym (ap (λ (z : Order). z.number) mine) ∙ same.number) new);
             strategy = sym same.strategy ∙ ap (λ (z : Order). z.strategy) mine;
             side = sym same.buy ∙ ap (λ (z : Order). z.buy) mine;
-            market = sym same.market ∙ ap (λ (z : Order). z.market) mine;
             limit = sym same.limit ∙ ap (λ (z : Order). z.limit) mine;
           }
 

@@ -8,7 +8,7 @@ use Rattle.rules.specs.declared.answer.Placed.{Placed}
 use Rattle.rules.specs.Orders.{left_of}
 use Rattle.rules.specs.States.{State, strategy_at}
 use Rattle.rules.specs.Events.{Event, Answer, defined, placed}
-use Rattle.rules.specs.Calls.{is_buy}
+use Rattle.rules.specs.Calls.{is_buy, placed_limit}
 use Rattle.rules.specs.Laws.{Accepted, Defined, sum, traded_of, executed, cancelled_by, cancelled_of, accepts, defines}
 use Rattle.rules.proofs.Ready.{Ready}
 use Rattle.rules.proofs.Accounts.{Same, Stems}
@@ -20,8 +20,7 @@ pub record Backed (h : List Event) (x : Order) : Type 0 where
   pub accepted : Accepted h x.number order
   pub strategy : x.strategy ≡ order.strategy
   pub side : x.buy ≡ is_buy order.side
-  pub market : x.market ≡ order.market
-  pub limit : x.limit ≡ order.limit
+  pub limit : x.limit ≡ placed_limit order
 
 -- the table has the strategies that were defined
 pub record Tabled (h : List Event) (s : State) : Type 0 where
@@ -54,7 +53,6 @@ same_backed h x y same b = record {
   accepted = subst (λ n. Accepted h n b.order) same.number b.accepted;
   strategy = sym same.strategy ∙ b.strategy;
   side = sym same.buy ∙ b.side;
-  market = sym same.market ∙ b.market;
   limit = sym same.limit ∙ b.limit;
 }
 
@@ -62,7 +60,7 @@ same_backed h x y same b = record {
 pub backed_later : (h : List Event) (e : Event) (x y : Order) → Same x y → Backed h x → Backed (h ++ (e ∷ [])) y
 backed_later h e x y same b =
     let own = same_backed h x y same b in
-    record { order = own.order; accepted = accepted_later h e y.number own.order own.accepted; strategy = own.strategy; side = own.side; market = own.market; limit = own.limit }
+    record { order = own.order; accepted = accepted_later h e y.number own.order own.accepted; strategy = own.strategy; side = own.side; limit = own.limit }
 
 module _ (h : List Event) (s : State) (e : Event) (t : State) (k : Known h s) where
   abbrev longer : List Event

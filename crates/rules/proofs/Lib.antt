@@ -1,3 +1,4 @@
+pub mod Ranks
 pub mod Ready
 pub mod Trails
 pub mod Granting

@@ -206,7 +206,7 @@ module _ (h : List Event) (s : State) (k : Known h s) (e : Event) (t : State) (d
       backed : (x : Order) → Has (ranked_insert order_ahead (entered (s.accepted + 1) o) s.orders) x → Backed longer x
       backed x has =
           ⊎_elim
-          (λ mine. subst (Backed longer) (sym mine) (record { order = o; accepted = accepted_now h e (s.accepted + 1) o new; strategy = refl; side = refl; market = refl; limit = refl }))
+          (λ mine. subst (Backed longer) (sym mine) (record { order = o; accepted = accepted_now h e (s.accepted + 1) o new; strategy = refl; side = refl; limit = refl }))
           (λ old. backed_later h e x x (same_refl x) (k.backed x old))
           (has_inserted (entered (s.accepted + 1) o) s.orders x has)
 

@@ -88,7 +88,7 @@ pub stems_reduced : (n q : ℕ) (os : List Order) → Stems os (reduced n q os)
 stems_reduced n q os =
     stems_from_all os (reduced n q os)
     (all_reduced n q (Stem os)
-    (λ o _ h. (h.0, h.1, record { strategy = h.2.strategy; buy = h.2.buy; market = h.2.market; limit = h.2.limit; number = h.2.number }))
+    (λ o _ h. (h.0, h.1, record { strategy = h.2.strategy; buy = h.2.buy; limit = h.2.limit; number = h.2.number }))
     os (all_stem os))
 
 pub stems_dropped : (n : ℕ) (os : List Order) → Stems os (dropped n os)

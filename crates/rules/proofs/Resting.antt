@@ -124,7 +124,7 @@ still_fewer legs s os fewer b ready stems still ms market = (pairless, legless)
     from buy x mine =
         let y = stems x mine.rests in
         let same = y.2 in
-        (y.0, record { rests = y.1; strategy = same.strategy ∙ mine.strategy; side = same.buy ∙ mine.side }, rw (same.market, same.buy, same.limit))
+        (y.0, record { rests = y.1; strategy = same.strategy ∙ mine.strategy; side = same.buy ∙ mine.side }, rw (same.buy, same.limit))
 
     pairless : Pairless ms s fewer
     pairless x y buy sell p within allowed =

@@ -1,16 +1,19 @@
 -- The executions of a call obey the law, and take what they say.
-use Rattle.std.proofs.Common.{◌≡◌, ℕ, ◌+◌, ◌≤◌, Bool, true, false, List, [], ◌∷◌, ◌≤ℤ◌, MatchBool, sym, refl, ap, ◌∙◌, subst, arith}
+use Rattle.std.proofs.Common.{◌≡◌, ℕ, ◌+◌, ◌≤◌, Bool, true, false, cond, List, [], ◌∷◌, ◌≤ℤ◌, Some, None, MatchBool, sym, refl, ap, ◌∙◌, subst, arith}
 use Rattle.std.specs.List.{ContainsAt as Has}
+use Rattle.std.specs.Option.{unwrap_or}
 use Rattle.std.proofs.ByRecursion.{all-has}
 use Rattle.simple.specs.declared.lot.Side.{Side}
 use Rattle.simple.specs.Lots.{Lots, contracts}
 use Rattle.strategies.specs.declared.leg.Leg.{Leg}
 use Rattle.pricing.specs.declared.market.NetPrice.{NetPrice}
+use Rattle.rules.specs.declared.order.NewOrder.{NewOrder}
 use Rattle.rules.specs.declared.order.Order.{Order}
 use Rattle.rules.specs.declared.execution.Execution.{Execution}
-use Rattle.rules.specs.Orders.{limit_of}
+use Rattle.rules.specs.Orders.{market_limit, limit_of}
 use Rattle.rules.specs.Steps.{Step, pair, legged, Trading, execution_of, lots_after, legs_taken, after_step}
 use Rattle.rules.specs.Events.{Event}
+use Rattle.rules.specs.Calls.{is_buy, placed_limit}
 use Rattle.rules.specs.Laws.{Accepted, Defined, counted_limit, sum, takes, lots_past, Bought, Sold, Legged, LawfulExecution, Executing, leg_contracts, contracts_taken, TakenIn}
 use Rattle.rules.proofs.Ready.{Ready, Steady, Mine, StepFair}
 use Rattle.rules.proofs.Trails.{Trail}
@@ -21,7 +24,10 @@ use Rattle.rules.proofs.Knowing.{Backed, same_backed}
 
 -- an order's limit is that of the order that was accepted
 pub limit_backed : (h : List Event) (x : Order) (b : Backed h x) → limit_of x ≡ counted_limit b.order
-limit_backed h x b = rw (b.market, b.side, b.limit)
+limit_backed h x b = rw (b.side, b.limit) (counted (is_buy b.order.side) b.order)
+  where
+    counted : (buy : Bool) (o : NewOrder) → unwrap_or (placed_limit o) (market_limit buy) ≡ cond o.market (market_limit buy) o.limit
+    counted buy o = elim o.market as (λ m. unwrap_or (cond m None (Some o.limit)) (market_limit buy) ≡ cond m (market_limit buy) o.limit) [ true ↦ refl | false ↦ refl ]
 
 module _ (h : List Event) (legs : List Leg) (s : ℕ) (known : Defined h s legs) (fit : Steady legs) where
   abbrev AllBacked : List Order → Type 0

@@ -115,8 +115,12 @@ abbrev pub is_immediate : TimeInForce → Bool
 is_immediate Day = false
 is_immediate ImmediateOrCancel = true
 
+-- a market order rests without a limit
+abbrev pub placed_limit : NewOrder → Option ℤ
+placed_limit o = cond o.market None (Some o.limit)
+
 abbrev pub entered : ℕ → NewOrder → Order
-entered n o = record { strategy = o.strategy; buy = is_buy o.side; market = o.market; limit = o.limit; number = n; quantity = o.quantity }
+entered n o = record { strategy = o.strategy; buy = is_buy o.side; limit = placed_limit o; number = n; quantity = o.quantity }
 
 -- a limit lies within the furthest, and a market order has limit 0
 abbrev pub limit_lawful : Bool → ℤ → Bool

@@ -1,5 +1,6 @@
 -- The orders at rest: their rank, the best of a side, and what is left of one.
 use Rattle.std.specs.Prelude.{ℕ, ◌-◌, Bool, cond, not, ◌&&◌, List, [], ◌∷◌, ℤ, pos, neg_ℤ, Some, None, Option, ◌==◌, nat_lt}
+use Rattle.std.specs.Option.{unwrap_or}
 use Rattle.ranked.specs.Lex.{by_keys, first_if, better}
 use Rattle.rules.specs.declared.order.Order.{Order}
 use Rattle.rules.specs.Limits.{furthest_limit}
@@ -10,7 +11,7 @@ market_limit buy = cond buy (pos furthest_limit) (neg_ℤ (pos furthest_limit))
 
 -- the limit that matching uses
 abbrev pub limit_of : Order → ℤ
-limit_of o = cond o.market (market_limit o.buy) o.limit
+limit_of o = unwrap_or o.limit (market_limit o.buy)
 
 -- by strategy, buys before sells, the better limit, the lower acceptance number
 abbrev pub order_keys : List (Order → ℤ)
@@ -33,7 +34,7 @@ best_order s buy [] = None
 best_order s buy (o ∷ os) = cond (is_of s buy o) (Some o) (best_order s buy os)
 
 abbrev pub less : ℕ → Order → Order
-less q o = record { strategy = o.strategy; buy = o.buy; market = o.market; limit = o.limit; number = o.number; quantity = o.quantity - q }
+less q o = record { strategy = o.strategy; buy = o.buy; limit = o.limit; number = o.number; quantity = o.quantity - q }
 
 -- the order of that number has q less, and rests no more with nothing left
 unfoldable pub reduced : ℕ → ℕ → List Order → List Order

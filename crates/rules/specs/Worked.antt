@@ -62,10 +62,10 @@ sell_at limit q = place (day_order 0 Sell (pos limit) q)
 
 -- what rests of them, by acceptance number
 abbrev pub buy_left : ℕ → ℕ → ℕ → Order
-buy_left n limit q = record { strategy = 0; buy = true; market = false; limit = pos limit; number = n; quantity = q }
+buy_left n limit q = record { strategy = 0; buy = true; limit = Some (pos limit); number = n; quantity = q }
 
 abbrev pub sell_left : ℕ → ℕ → ℕ → Order
-sell_left n limit q = record { strategy = 0; buy = false; market = false; limit = pos limit; number = n; quantity = q }
+sell_left n limit q = record { strategy = 0; buy = false; limit = Some (pos limit); number = n; quantity = q }
 
 -- an execution of strategy 0, with the numbers of the buy and of the sell, and its two leg prices
 abbrev pub traded : (price quantity buy sell first second : ℕ) → Execution

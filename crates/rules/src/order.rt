@@ -1,5 +1,5 @@
 // Orders, as they come and as they rest, and their rank.
-ghost use Rattle.std.specs.Prelude.{◌≡◌};
+ghost use Rattle.std.specs.Prelude.{◌≡◌, not, if◌then◌else◌, pos, ◌-ℤ◌};
 ghost use Rattle.rules.specs.Orders.{limit_of, order_ahead, order_number, order_keys};
 ghost use Rattle.ranked.proofs.Lexes.{keys_connected, keys_irreflexive, keys_transitive};
 
@@ -11,7 +11,7 @@ use ranked::Ranked;
 pub struct NewOrder {
     pub strategy: u32,
     pub side: OrderSide,
-    // a market order has limit 0
+    // a flag beside the limit: a market order that comes with a limit has to be told from one without, to be refused
     pub market: bool,
     pub limit: i64,
     pub time_in_force: TimeInForce,
@@ -23,9 +23,8 @@ pub struct NewOrder {
 pub struct Order {
     pub strategy: u32,
     pub buy: bool,
-    pub market: bool,
-    // as placed
-    pub limit: i64,
+    // as placed; nothing for a market order
+    pub limit: Option<i64>,
     pub number: u32,
     pub quantity: u32,
 }
@@ -38,14 +37,23 @@ impl Order {
     pub fn working_limit(&self) -> i64
         ensures { result ≡ limit_of self.now }
     {
-        if !self.market {
-            return self.limit;
+        match self.limit {
+            Some(limit) => limit,
+            None if self.buy => FURTHEST_LIMIT,
+            None => -FURTHEST_LIMIT,
         }
-        if self.buy {
-            FURTHEST_LIMIT
-        } else {
-            -FURTHEST_LIMIT
-        }
+    }
+
+    // By which it ranks, the lesser first. Of buys that is the higher limit: -1 - limit fits, where -limit may not.
+    fn keys(&self) -> (u32, bool, i64, u32)
+        ensures strategy { result.0 ≡ self.now.strategy }
+        ensures side { result.1 ≡ not self.now.buy }
+        ensures limit { result.2 ≡ (if self.now.buy then pos 0 -ℤ pos 1 -ℤ limit_of self.now else limit_of self.now) }
+        ensures number { result.3 ≡ self.now.number }
+    {
+        let limit = self.working_limit();
+        let limit = if self.buy { -1 - limit } else { limit };
+        (self.strategy, !self.buy, limit, self.number)
     }
 }
 
@@ -61,22 +69,7 @@ impl Ranked for Order {
     ghost transitive = { keys_transitive order_number order_keys };
 
     fn is_ahead(&self, other: &Order) -> bool {
-        if self.strategy != other.strategy {
-            return self.strategy < other.strategy;
-        }
-        if self.buy != other.buy {
-            return self.buy;
-        }
-        let limit = self.working_limit();
-        let other_limit = other.working_limit();
-        if limit != other_limit {
-            return if self.buy {
-                limit > other_limit
-            } else {
-                limit < other_limit
-            };
-        }
-        self.number < other.number
+        self.keys() < other.keys()
     }
 
     fn number(&self) -> u32 {

@@ -1,5 +1,5 @@
 -- One step after another.
-use Rattle.std.proofs.Common.{◌≡◌, ℕ, suc, ◌+◌, ◌-◌, ◌<◌, ◌≤◌, Bool, true, false, List, [], ◌∷◌, ◌++◌, length, take, drop, set, Some, None, sym, refl, ap, ◌∙◌, arith}
+use Rattle.std.proofs.Common.{◌≡◌, ℕ, suc, ◌+◌, ◌-◌, ◌<◌, ◌≤◌, Bool, true, false, List, [], ◌∷◌, ◌++◌, length, take, drop, set, Some, None, sym, refl, ap, ◌∙◌, subst, arith}
 use Rattle.std.proofs.lemmas.List.{append-nil, append_assoc, take_more_set, length-set, length-take-le, drop-set-lt, drop-drop, take-append-drop}
 use Rattle.simple.specs.Lots.{Lots}
 use Rattle.strategies.specs.declared.leg.Leg.{Leg}
@@ -45,7 +45,7 @@ module _ (legs : List Leg) (s : ℕ) where
   no_room n t is = ap (λ k. steps legs s k t) is
 
   module _ (f : Stepped) (before out : List Execution) (w : ℕ) (t : Trading) (going : Going f before out w t) where
-    pub going_more : (x : Step) (e : Execution) (u : Trading) → Some x ≡ step_of legs s t → e ≡ execution_of s x → w < length out → u ≡ after_step legs x t → Going f before (set out w e) (w + 1) u
+    pub going_more : (x : Step) (e : Execution) (u : Trading) → Some x ≡ step_of legs s t → e ≡ execution_of s x → w < length before → u ≡ after_step legs x t → Going f before (set out w e) (w + 1) u
     going_more x e u at says lt is =
         let long = going.long in
         let few = going.few in
@@ -56,7 +56,7 @@ module _ (legs : List Leg) (s : ℕ) where
               ∙ ap (behind (take w out)) (one_step (length before - w) rest t x (omega arith) (sym at))
               ∙ twice (take w out) (execution_of s x) (steps legs s rest (after_step legs x t))
               ∙ ap (λ e. behind (take w out ++ (e ∷ [])) (steps legs s rest (after_step legs x t))) (sym says)
-              ∙ ap (λ xs. behind xs (steps legs s rest (after_step legs x t))) (sym (take_more_set out w e lt))
+              ∙ ap (λ xs. behind xs (steps legs s rest (after_step legs x t))) (sym (take_more_set out w e (omega (arith, lt, long))))
               ∙ ap (λ u. behind (take (w + 1) (set out w e)) (steps legs s rest u)) (sym is);
           others = drop-set-lt (w + 1) out w e (omega arith) ∙ sym (drop-drop 1 w out) ∙ ap (drop 1) going.others ∙ drop-drop 1 w before;
           long = length-set out w e ∙ going.long;
@@ -79,9 +79,15 @@ module _ (legs : List Leg) (s : ℕ) where
         }
 
     -- the list is full
-    pub going_full : length out ≤ w → Ran f before out t.orders t.lots w false
-    going_full is = let long = going.long in ended false t.lots refl (no_room (length before - w) t (omega arith))
+    pub going_full : length before ≤ w → Ran f before out t.orders t.lots (length out) false
+    going_full is =
+        let long = going.long in
+        let few = going.few in
+        let all : w ≡ length out = omega arith in
+        subst (λ n. Ran f before out t.orders t.lots n false) all (ended false t.lots refl (no_room (length before - w) t (omega arith)))
 
-    -- no step is possible
-    pub going_all : (b : Lots) → b ≡ t.lots → None ≡ step_of legs s t → w < length out → Ran f before out t.orders b w true
-    going_all b there at lt = let long = going.long in ended true b there (no_step (length before - w) (length before - (w + 1)) t (omega arith) (sym at))
+    -- no step is possible, and the list stays
+    pub going_all : (b : Lots) (kept : List Execution) → b ≡ t.lots → kept ≡ out → None ≡ step_of legs s t → w < length before → Ran f before kept t.orders b w true
+    going_all b kept there same at lt =
+        subst (λ xs. Ran f before xs t.orders b w true) (sym same)
+        (ended true b there (no_step (length before - w) (length before - (w + 1)) t (omega arith) (sym at)))

@@ -1,5 +1,4 @@
--- The lemmas on orders by number, legs taken and steps one after another.
-pub mod Options
+-- The lemmas on orders by number, the best of a side, legs taken and steps one after another.
 pub mod Places
 pub mod Bests
 pub mod Chosen

@@ -4,16 +4,16 @@ ghost use Rattle.std.specs.Option.{option_map};
 ghost use Rattle.ranked.specs.Held.{items};
 ghost use Rattle.strategies.specs.Strategies.{strategy_legs};
 ghost use Rattle.pricing.specs.Markets.{legs_of};
-ghost use Rattle.rules.specs.Steps.{trading, pair_of, leg_of, number_in, older, step_with, step_of, rests};
+ghost use Rattle.rules.specs.Steps.{trading, pair_of, leg_of, older, step_with, step_of, rests};
 ghost use Rattle.stepping.specs.Stepping.{told};
 
+use crate::defined::Defined;
 use crate::orders::best_order;
 use crate::steps::Step;
 use pricing::{StrategyMarket, market_of};
 use ranked::RankedList;
 use rules::Order;
 use simple::SimpleBook;
-use strategies::Strategy;
 
 // The step of the best buy and the best sell, if they trade.
 fn pair_of(market: &StrategyMarket, buy: Option<Order>, sell: Option<Order>) -> Option<Step>
@@ -46,30 +46,14 @@ fn leg_of(market: &StrategyMarket, order: Option<Order>) -> Option<Step>
     })
 }
 
-// The number of the order that is legged.
-fn number_in(step: Step) -> u32
-    ensures { result ≡ number_in (told step) }
-{
-    match step {
-        Step::Pair { buy, .. } => buy.number,
-        Step::Legged { order, .. } => order.number,
-    }
-}
-
 // Of two legged orders the older.
 fn older(buy: Option<Step>, sell: Option<Step>) -> Option<Step>
     ensures { option_map told result ≡ older (option_map told buy) (option_map told sell) }
 {
-    let Some(x) = buy else {
-        return sell;
-    };
-    let Some(y) = sell else {
-        return buy;
-    };
-    if number_in(x) < number_in(y) {
-        buy
-    } else {
-        sell
+    match (buy, sell) {
+        (Some(x), Some(y)) if x.number() < y.number() => buy,
+        (_, None) => buy,
+        _ => sell,
     }
 }
 
@@ -77,40 +61,28 @@ fn older(buy: Option<Step>, sell: Option<Step>) -> Option<Step>
 fn step_with(market: &StrategyMarket, buy: Option<Order>, sell: Option<Order>) -> Option<Step>
     ensures { option_map told result ≡ step_with (legs_of market.now) buy sell }
 {
-    let pair = pair_of(market, buy, sell);
-    if pair.is_some() {
-        return pair;
+    pair_of(market, buy, sell).or_else(|| older(leg_of(market, buy), leg_of(market, sell)))
+}
+
+impl Defined {
+    // The next step; nothing while the strategy is not free.
+    pub fn next_step<B: SimpleBook>(&self, orders: &RankedList<Order>, book: &mut B) -> Option<Step>
+        ensures answer { option_map told result ≡ step_of (strategy_legs self.now.strategy) self.now.number (trading (items orders.now) (B.SimpleBook.lots book.old)) }
+        ensures lots { B.SimpleBook.lots book.new ≡ B.SimpleBook.lots book.old }
+        ensures frame { B.SimpleBook.frame book.new ≡ B.SimpleBook.frame book.old }
+    {
+        let market = market_of(book, &self.strategy)?;
+        let buy = best_order(orders, self.number, true);
+        let sell = best_order(orders, self.number, false);
+        step_with(&market, buy, sell)
     }
-    older(leg_of(market, buy), leg_of(market, sell))
-}
 
-// The next step of a strategy under its number; nothing while it is not free.
-pub fn next_step<B: SimpleBook>(
-    orders: &RankedList<Order>,
-    book: &mut B,
-    strategy: &Strategy,
-    number: u32,
-) -> Option<Step>
-    ensures answer { option_map told result ≡ step_of (strategy_legs strategy.now) number (trading (items orders.now) (B.SimpleBook.lots book.old)) }
-    ensures lots { B.SimpleBook.lots book.new ≡ B.SimpleBook.lots book.old }
-    ensures frame { B.SimpleBook.frame book.new ≡ B.SimpleBook.frame book.old }
-{
-    let market = market_of(book, strategy)?;
-    let buy = best_order(orders, number, true);
-    let sell = best_order(orders, number, false);
-    step_with(&market, buy, sell)
-}
-
-// Whether no step is possible.
-pub fn rests<B: SimpleBook>(
-    orders: &RankedList<Order>,
-    book: &mut B,
-    strategy: &Strategy,
-    number: u32,
-) -> bool
-    ensures answer { result ≡ rests (strategy_legs strategy.now) number (trading (items orders.now) (B.SimpleBook.lots book.old)) }
-    ensures lots { B.SimpleBook.lots book.new ≡ B.SimpleBook.lots book.old }
-    ensures frame { B.SimpleBook.frame book.new ≡ B.SimpleBook.frame book.old }
-{
-    next_step(orders, book, strategy, number).is_none()
+    // Whether no step is possible.
+    pub fn rests<B: SimpleBook>(&self, orders: &RankedList<Order>, book: &mut B) -> bool
+        ensures answer { result ≡ rests (strategy_legs self.now.strategy) self.now.number (trading (items orders.now) (B.SimpleBook.lots book.old)) }
+        ensures lots { B.SimpleBook.lots book.new ≡ B.SimpleBook.lots book.old }
+        ensures frame { B.SimpleBook.frame book.new ≡ B.SimpleBook.frame book.old }
+    {
+        self.next_step(orders, book).is_none()
+    }
 }

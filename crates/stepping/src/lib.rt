@@ -3,13 +3,14 @@
 #![tactic(auto)]
 
 mod choosing;
+mod defined;
 mod orders;
 mod running;
 mod steps;
 mod taking;
 
-pub use choosing::{next_step, rests};
+pub use defined::Defined;
 pub use orders::{best_order, drop_order, order_with, reduce};
-pub use running::run_steps;
+pub use running::Stepped;
 pub use steps::Step;
 pub use taking::take_legs;

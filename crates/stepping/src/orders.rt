@@ -1,30 +1,20 @@
 // The orders at rest, by strategy and by number.
 ghost use Rattle.std.specs.Prelude.{◌≡◌};
 ghost use Rattle.ranked.specs.Held.{items, room};
-ghost use Rattle.rules.specs.Orders.{is_of, best_order, reduced, dropped, order_with};
+ghost use Rattle.rules.specs.Orders.{best_order, reduced, dropped, order_with};
 
 use ranked::RankedList;
 use rules::Order;
-
-// Whether an order is of the strategy, on that side.
-fn is_of(order: Order, strategy: u32, buy: bool) -> bool
-    ensures { result ≡ is_of strategy buy order }
-{
-    order.strategy == strategy && order.buy == buy
-}
 
 // The best buy or sell of a strategy: the first in rank.
 pub fn best_order(orders: &RankedList<Order>, strategy: u32, buy: bool) -> Option<Order>
     ensures { result ≡ best_order strategy buy (items orders.now) }
 {
-    let mut place = 0;
-    while let Some(order) = orders.get(place) {
-        if is_of(order, strategy, buy) {
-            return Some(order);
-        }
-        place += 1;
-    }
-    None
+    orders
+        .entries()
+        .iter()
+        .find(|order| order.strategy == strategy && order.buy == buy)
+        .copied()
 }
 
 // The order of a number.

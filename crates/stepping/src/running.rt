@@ -2,10 +2,10 @@
 ghost use Rattle.std.specs.Prelude.{◌≡◌, length};
 ghost use Rattle.ranked.specs.Held.{items, room};
 ghost use Rattle.strategies.specs.Strategies.{strategy_legs};
-ghost use Rattle.rules.specs.Steps.{trading, execution_of, orders_after, lots_after, steps};
+ghost use Rattle.rules.specs.Steps.{trading, orders_after, lots_after, steps};
 ghost use Rattle.stepping.specs.Stepping.{told, Ran};
 
-use crate::choosing::next_step;
+use crate::defined::Defined;
 use crate::orders::reduce;
 use crate::steps::Step;
 use crate::taking::take_legs;
@@ -14,56 +14,18 @@ use rules::{Execution, Order};
 use simple::SimpleBook;
 use strategies::Strategy;
 
-// The record of a step.
-fn execution_of(number: u32, step: Step) -> Execution
-    ensures { result ≡ execution_of number (told step) }
-{
-    match step {
-        Step::Pair { buy, sell, at } => {
-            let legs = at.legs;
-            Execution {
-                strategy: number,
-                price: at.price,
-                quantity: buy.quantity.min(sell.quantity),
-                buy: buy.number,
-                sell: sell.number,
-                legs,
-            }
-        }
-        Step::Legged {
-            order,
-            quantity,
-            at,
-        } => {
-            let legs = at.legs;
-            Execution {
-                strategy: number,
-                price: at.price,
-                quantity,
-                buy: if order.buy { order.number } else { 0 },
-                sell: if order.buy { 0 } else { order.number },
-                legs,
-            }
-        }
-    }
-}
-
 // What a step leaves of the orders.
 fn settle(orders: &mut RankedList<Order>, step: Step)
     ensures items { items orders.new ≡ orders_after (told step) (items orders.old) }
     ensures room { room orders.new ≡ room orders.old }
 {
+    let quantity = step.quantity();
     match step {
         Step::Pair { buy, sell, .. } => {
-            let quantity = buy.quantity.min(sell.quantity);
             reduce(orders, buy.number, quantity);
             reduce(orders, sell.number, quantity);
         }
-        Step::Legged {
-            order,
-            quantity,
-            ..
-        } => reduce(orders, order.number, quantity),
+        Step::Legged { order, .. } => reduce(orders, order.number, quantity),
     }
 }
 
@@ -82,27 +44,40 @@ fn take<B: SimpleBook>(book: &mut B, strategy: &Strategy, step: Step)
     }
 }
 
-// Step after step, until none is possible or the list has no room: how many, and whether none was possible.
-pub fn run_steps<B: SimpleBook>(
-    orders: &mut RankedList<Order>,
-    book: &mut B,
-    strategy: &Strategy,
-    number: u32,
-    out: &mut [Execution],
-) -> (usize, bool)
-    ensures equation { Ran (steps (strategy_legs strategy.now) number (length out.old) (trading (items orders.old) (B.SimpleBook.lots book.old))) out.old out.new (items orders.new) (B.SimpleBook.lots book.new) result.0 result.1 }
-    ensures room { room orders.new ≡ room orders.old }
-    ensures frame { B.SimpleBook.frame book.new ≡ B.SimpleBook.frame book.old }
-{
-    let mut written = 0;
-    while written < out.len() {
-        let Some(next) = next_step(orders, book, strategy, number) else {
-            return (written, true);
-        };
-        out[written] = execution_of(number, next);
-        written += 1;
-        settle(orders, next);
-        take(book, strategy, next);
+// What a run of steps came to.
+#[derive(Clone, Copy)]
+pub struct Stepped {
+    pub records: usize,
+    // whether it ended because no step was possible, and not because the list was full
+    pub settled: bool,
+}
+
+impl Defined {
+    // Step after step, until none is possible or the list has no room.
+    pub fn run<B: SimpleBook>(
+        &self,
+        orders: &mut RankedList<Order>,
+        book: &mut B,
+        out: &mut [Execution],
+    ) -> Stepped
+        ensures equation { Ran (steps (strategy_legs self.now.strategy) self.now.number (length out.old) (trading (items orders.old) (B.SimpleBook.lots book.old))) out.old out.new (items orders.new) (B.SimpleBook.lots book.new) result.records result.settled }
+        ensures room { room orders.new ≡ room orders.old }
+        ensures frame { B.SimpleBook.frame book.new ≡ B.SimpleBook.frame book.old }
+    {
+        for (records, slot) in out.iter_mut().enumerate() {
+            let Some(step) = self.next_step(orders, book) else {
+                return Stepped {
+                    records,
+                    settled: true,
+                };
+            };
+            *slot = step.execution(self.number);
+            settle(orders, step);
+            take(book, &self.strategy, step);
+        }
+        Stepped {
+            records: out.len(),
+            settled: false,
+        }
     }
-    (written, false)
 }

@@ -9,8 +9,11 @@ use strategies::Leg;
 fn side_taken(leg: Leg, buy: bool) -> Side
     ensures { result ≡ side_taken buy leg }
 {
-    let lifts = if buy { leg.bought } else { !leg.bought };
-    if lifts { Side::Offer } else { Side::Bid }
+    if leg.bought == buy {
+        Side::Offer
+    } else {
+        Side::Bid
+    }
 }
 
 // Takes so many strategies' contracts of one leg; a take that is refused changes nothing.

@@ -1,14 +1,17 @@
--- `best_order`: the walk has passed orders of which none is of the side.
-use Rattle.std.proofs.Common.{sym}
+-- `best_order`: the first that is found.
+use Rattle.std.proofs.Common.{◌∙◌, rules}
+use Rattle.std.proofs.lemmas.Iterator.{YieldsList-from_slice}
+use Rattle.std.proofs.lemmas.Iterator.Search.{find_from_yields_List}
 use Rattle.ranked.specs.Held.{items}
-use Rattle.stepping.proofs.Bests.{best_found, best_more, best_none}
+use Rattle.rules.specs.Orders.{is_of, best_order}
+use Rattle.stepping.proofs.Bests.{best_found}
 use Rattle.stepping.proofs.orders.best_order.Goals as goal
 
-pub loop-order-preserved : goal.loop-order-preserved
-loop-order-preserved c = best_more c.args.strategy c.args.buy (items c.args.orders.now) c.loop-order.place c.loop-order.invariant c.in-Some.order c.in-Some.ensures.answer (sym c.if-is_of.ensures)
-
-pub returns-then-is_of : goal.returns-then-is_of
-returns-then-is_of c = best_found c.args.strategy c.args.buy (items c.args.orders.now) c.loop-order.place c.loop-order.invariant c.in-Some.order c.in-Some.ensures.answer (sym c.if-is_of.ensures)
-
 pub returns : goal.returns
-returns c = best_none c.args.strategy c.args.buy (items c.args.orders.now) c.loop-order.place c.loop-order.invariant c.in_default.ensures.answer
+returns c =
+    let s = c.args.strategy in
+    let buy = c.args.buy in
+    let os = items c.args.orders.now in
+    c.copied.ensures
+    ∙ find_from_yields_List (is_of s buy) _ _ c.find.result c.find.ensures.ran (YieldsList-from_slice os (c.iter.ensures.rest ∙ c.entries.ensures)) (λ x b q k. search rules)
+    ∙ best_found s buy os
