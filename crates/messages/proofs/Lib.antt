@@ -1,6 +1,7 @@
 pub mod FieldLaws
 pub mod Offences
 pub mod Passing
+pub mod Fitting
 pub mod Legs
 pub mod Bytes
 pub mod Trips

@@ -51,7 +51,7 @@ pub(crate) const EVALUATE: OrderFields = OrderFields {
 };
 
 impl OrderFields {
-    ghost use Rattle.std.specs.Prelude.{cond, Some, None};
+    ghost use Rattle.std.specs.Bool.{then_some};
     ghost use Rattle.contents.specs.declared.message.Message.TheVariants.{Place};
     ghost use Rattle.messages.specs.Layout.{order_layout};
     ghost use Rattle.messages.specs.Limits.{limit_fits};
@@ -59,7 +59,7 @@ impl OrderFields {
 
     // The fields of a message that places an order, if 32 bits hold its limit in two's complement.
     pub(crate) fn placing(order: &PlaceFields) -> Option<OrderFields>
-        ensures { result ≡ cond (limit_fits order.now.limit) (Some (order_fields_of (Place order.now))) None }
+        ensures { result ≡ then_some (limit_fits order.now.limit) (order_fields_of (Place order.now)) }
     {
         let limit = i32::try_from(order.limit).ok()?;
         Some(OrderFields {

@@ -1,5 +1,6 @@
 // The writer of messages, in edition 2.
-ghost use Rattle.std.specs.Prelude.{◌≡◌, ◌+◌, ◌-◌, ◌*◌, ◌^◌, ◌<◌, ◌≤◌, cond, [], ◌∷◌, ◌++◌, length, Some, None, IfSome, OnOk};
+ghost use Rattle.std.specs.Prelude.{◌≡◌, ◌+◌, ◌-◌, ◌*◌, ◌^◌, ◌<◌, ◌≤◌, [], ◌∷◌, ◌++◌, length, IfSome, OnOk};
+ghost use Rattle.std.specs.Bool.{then_some};
 ghost use Rattle.contents.specs.declared.message.Message.TheVariants.{Define};
 ghost use Rattle.messages.specs.Bits.{message_bits};
 ghost use Rattle.contents.specs.declared.edition.Edition.TheVariants.{Signed};
@@ -35,7 +36,7 @@ fn head_image(kind: Kind) -> u128
 // The bits of a message of the fields that placing, cancelling and evaluating share, if each may have its value.
 fn order_image(kind: Kind, fields: &OrderFields, greatest: &OrderFields) -> Option<u128>
     requires { Capable (order_layout greatest.now) }
-    ensures { result ≡ cond (all_within (order_layout greatest.now) (order_values fields.now)) (Some (image (head_layout ++ order_layout greatest.now) (edition_code Signed ∷ kind_code kind ∷ order_values fields.now))) None }
+    ensures { result ≡ then_some (all_within (order_layout greatest.now) (order_values fields.now)) (image (head_layout ++ order_layout greatest.now) (edition_code Signed ∷ kind_code kind ∷ order_values fields.now)) }
 {
     if !fields.within(greatest) {
         return None;
@@ -55,7 +56,7 @@ fn order_image(kind: Kind, fields: &OrderFields, greatest: &OrderFields) -> Opti
 // The bits of a leg whose first bit is `place`, if each part may have its value; beyond the count that is 0.
 fn leg_image(leg: &LegFields, place: usize, counted: bool) -> Option<u128>
     requires { place + 15 ≤ message_bits }
-    ensures image { result ≡ cond (all_within (leg_layout counted place) (leg_values leg.now)) (Some (image (leg_layout counted place) (leg_values leg.now))) None }
+    ensures image { result ≡ then_some (all_within (leg_layout counted place) (leg_values leg.now)) (image (leg_layout counted place) (leg_values leg.now)) }
     ensures bound { IfSome result (λ image. image < 2 ^ 114) }
 {
     let side = leg.side.into();
@@ -71,7 +72,7 @@ fn leg_image(leg: &LegFields, place: usize, counted: bool) -> Option<u128>
 
 // The bits of a definition, if its leg count and each leg fit.
 fn define_image(count: u64, legs: &[LegFields; 4]) -> Option<u128>
-    ensures image { result ≡ cond (fits (Define (record { count = count; legs = legs.now }))) (Some (image_of (Define (record { count = count; legs = legs.now })))) None }
+    ensures image { result ≡ then_some (fits (Define (record { count = count; legs = legs.now }))) (image_of (Define (record { count = count; legs = legs.now }))) }
     ensures legs { length legs.now ≡ 4 }
 {
     if count > 15 {
@@ -86,7 +87,7 @@ fn define_image(count: u64, legs: &[LegFields; 4]) -> Option<u128>
 
 // The 112 bits of a message, if it fits.
 fn image(message: &Message) -> Option<u128>
-    ensures image { result ≡ cond (fits message.now) (Some (image_of message.now)) None }
+    ensures image { result ≡ then_some (fits message.now) (image_of message.now) }
     ensures legs { FourLegged message.now }
 {
     match message {

@@ -1,7 +1,8 @@
-use Rattle.std.proofs.Common.{◌≡◌, true, leb, [], length, drop, Some, sym, ap, ◌∙◌, drop_of_length-le, arith, rules}
-use Rattle.std.proofs.lemmas.Bool.{and_from, cond-true, le-leb}
+use Rattle.std.proofs.Common.{◌≡◌, true, leb, [], length, drop, ap, ◌∙◌, drop_of_length-le, arith, rules}
+use Rattle.std.proofs.lemmas.Bool.{and_from, le-leb}
 use Rattle.contents.specs.declared.message.Message.TheVariants.{Define}
 use Rattle.messages.specs.Writing.{fits, image_of}
+use Rattle.messages.proofs.Fitting.{fitting}
 use Rattle.messages.proofs.Legs.{legs_fit, legs_image, define_fits, define_bits}
 use Rattle.messages.proofs.writer.define_image.Goals as goal
 
@@ -17,4 +18,4 @@ returns-clause-image c =
     let fit : fits (Define (record { count = n; legs = ls })) ≡ true = define_fits n ls four ∙ and_from _ _ count legs in
     let rest : legs_image n i (drop i ls) ≡ 0 = ap (legs_image n i) none in
     let bits : c.loop-i.image ≡ image_of (Define (record { count = n; legs = ls })) = omega (arith, c.loop-i.invariant.1, rest, define_bits n ls four) in
-    ap Some bits ∙ sym (cond-true _ _ _ fit)
+    fitting _ _ _ fit bits

@@ -1,4 +1,5 @@
-use Rattle.std.proofs.Common.{cond, Some, None, sym, ap, ◌∙◌}
+use Rattle.std.specs.Bool.{then_some}
+use Rattle.std.proofs.Common.{sym, ap, ◌∙◌}
 use Rattle.messages.specs.declared.codes.Kind.TheVariants.{Place, Cancel, Evaluate}
 use Rattle.contents.specs.declared.message.Message.{Message}
 use Rattle.messages.specs.Writing.{fits, image_of}
@@ -15,4 +16,4 @@ pub order_image-requires-in-Evaluate : goal.order_image-requires-in-Evaluate
 order_image-requires-in-Evaluate c = capable Evaluate 0
 
 pub returns-in-Define-clause-image : goal.returns-in-Define-clause-image
-returns-in-Define-clause-image c = c.define_image.ensures.image ∙ ap (λ (m : Message). cond (fits m) (Some (image_of m)) None) (sym c.in-Define.is)
+returns-in-Define-clause-image c = c.define_image.ensures.image ∙ ap (λ (m : Message). then_some (fits m) (image_of m)) (sym c.in-Define.is)

@@ -1,17 +1,12 @@
-use Rattle.std.proofs.Common.{◌≡◌, ℕ, Bool, true, false, cond, eqb, List, length, take, drop, Some, None, Ok, Option, ok_or, sym, refl, ap, ◌∙◌, arith}
+use Rattle.std.proofs.Common.{◌≡◌, ℕ, true, eqb, List, length, take, drop, Option, ok_or, sym, ap, ◌∙◌, arith}
 use Rattle.std.proofs.lemmas.Bool.{and_from, cond-true, eq-eqb}
-use Rattle.contents.specs.declared.fault.WriterFault.{WriterFault}
 use Rattle.messages.specs.Bits.{bytes_of}
 use Rattle.messages.specs.Reading.{read_of}
 use Rattle.messages.specs.Writing.{fits, image_of, writable}
 use Rattle.messages.proofs.Bytes.{bytes_high}
+use Rattle.messages.proofs.Fitting.{fitted}
 use Rattle.messages.proofs.Round.{back}
 use Rattle.messages.proofs.writer.write.Goals as goal
-
--- where there is an image, the message fits and this is its image
-fitted : (b : Bool) (x y : ℕ) (f : WriterFault) → ok_or (cond b (Some x) None) f ≡ Ok y → (b ≡ true) × (y ≡ x)
-fitted true x y f h = (refl, cc)
-fitted false x y f h = let z : ◌≡◌ {A = ℕ} 0 1 = cc in absurd (omega arith)
 
 pub returns : goal.returns
 returns c =
