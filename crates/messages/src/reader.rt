@@ -3,12 +3,17 @@ ghost use Rattle.std.specs.Prelude.{◌≡◌, ℕ, ◌+◌, ◌-◌, ◌*◌, �
 ghost use Rattle.messages.specs.Laws.{Accepted, Said, WrittenBack};
 ghost use Rattle.messages.specs.Layout.{order_layout, leg_layout, define_layout, layout};
 ghost use Rattle.messages.specs.Limits.{limit_in};
-ghost use Rattle.messages.specs.Reading.{first, first_offence, order_fields, leg_at, leg_count, defined, said, read_of};
+ghost use Rattle.messages.specs.Bits.{message_bits};
+ghost use Rattle.messages.specs.Passing.{Passed};
+ghost use Rattle.messages.specs.Reading.{order_fields, leg_at, leg_count, defined, said, read_of};
 
 use crate::bits::BitReader;
 use crate::codes::Kind;
 use crate::fields::{CANCEL, EVALUATE, OrderFields, PLACE, most};
-use contents::{DefineFields, Edition, LegFields, LegSide, Message, OrderSide, PlaceFields, ReaderFault, Received};
+use contents::{
+    DefineFields, Edition, LegFields, LegSide, Message, OrderSide, PlaceFields, ReaderFault,
+    Received,
+};
 use refusals::Reason;
 
 // The limit that 32 bits say.
@@ -26,79 +31,64 @@ fn limit_of(edition: Edition, raw: u64) -> i64
 impl BitReader<'_> {
     // The fields that placing, cancelling and evaluating share; one that is above its greatest offends.
     fn order_fields(&mut self, greatest: &OrderFields) -> OrderFields
-        requires message { length self.old.bytes.now ≡ 14 }
         requires begins { self.old.at ≡ 8 }
         ensures value { result ≡ order_fields self.old.bytes.now }
-        ensures noted { self.new.offence ≡ first self.old.offence (first_offence self.old.bytes.now (order_layout greatest.now)) }
+        ensures passed { Passed self.old self.new 104 (order_layout greatest.now) }
         ensures narrow { result.limit < 2 ^ 32 }
     {
-        let strategy = self.field(8, greatest.strategy);
-        let side = self.field(1, greatest.side);
-        let market = self.field(1, greatest.market);
-        let time_in_force = self.field(2, greatest.time_in_force);
-        let limit = self.field(32, greatest.limit);
-        let quantity = self.field(16, greatest.quantity);
-        let number = self.field(32, greatest.number);
+        let fields = OrderFields {
+            strategy: self.field(8, greatest.strategy),
+            side: self.field(1, greatest.side),
+            market: self.field(1, greatest.market),
+            time_in_force: self.field(2, greatest.time_in_force),
+            limit: self.field(32, greatest.limit),
+            quantity: self.field(16, greatest.quantity),
+            number: self.field(32, greatest.number),
+        };
         self.unused_bits(12);
-        OrderFields {
-            strategy,
-            side,
-            market,
-            time_in_force,
-            limit,
-            quantity,
-            number,
-        }
+        fields
     }
 
     // The next leg, which answers its own first bit; one beyond the count is 0.
     fn leg(&mut self, within: bool) -> LegFields
-        requires message { length self.old.bytes.now ≡ 14 }
-        requires begins { self.old.at + 15 ≤ 112 }
+        requires begins { self.old.at + 15 ≤ message_bits }
         ensures value { result ≡ leg_at self.old.bytes.now self.old.at }
-        ensures moved { self.new.at ≡ self.old.at + 15 }
-        ensures noted { self.new.offence ≡ first self.old.offence (first_offence self.old.bytes.now (leg_layout within self.old.at)) }
-        ensures same { self.new.bytes.now ≡ self.old.bytes.now }
+        ensures passed { Passed self.old self.new 15 (leg_layout within self.old.at) }
     {
         let place = self.at as u32;
-        let series = self.part(10, most(within, 10), place);
-        let side = self.part(1, most(within, 1), place);
-        let ratio = self.part(4, most(within, 4), place);
         LegFields {
-            series,
-            side: match side {
+            series: self.part(10, most(within, 10), place),
+            side: match self.part(1, most(within, 1), place) {
                 0 => LegSide::Bought,
                 _ => LegSide::Sold,
             },
-            ratio,
+            ratio: self.part(4, most(within, 4), place),
         }
     }
 
     // A definition: its leg count and four legs.
     fn definition(&mut self) -> DefineFields
-        requires message { length self.old.bytes.now ≡ 14 }
         requires begins { self.old.at ≡ 8 }
         ensures value { result ≡ defined self.old.bytes.now }
-        ensures noted { self.new.offence ≡ first self.old.offence (first_offence self.old.bytes.now (define_layout (leg_count self.old.bytes.now))) }
+        ensures passed { Passed self.old self.new 104 (define_layout (leg_count self.old.bytes.now)) }
     {
         let count = self.field(4, 15);
-        let first = self.leg(0 < count);
-        let second = self.leg(1 < count);
-        let third = self.leg(2 < count);
-        let fourth = self.leg(3 < count);
+        // four calls: `array::from_fn` does not say where its last call leaves the reader
+        let legs = [
+            self.leg(0 < count),
+            self.leg(1 < count),
+            self.leg(2 < count),
+            self.leg(3 < count),
+        ];
         self.unused_bits(40);
-        DefineFields {
-            count,
-            legs: [first, second, third, fourth],
-        }
+        DefineFields { count, legs }
     }
 
     // The message of a kind, read from behind the head.
     fn message(&mut self, kind: Kind, edition: Edition) -> Message
-        requires message { length self.old.bytes.now ≡ 14 }
         requires begins { self.old.at ≡ 8 }
         ensures value { result ≡ said kind edition self.old.bytes.now }
-        ensures noted { self.new.offence ≡ first self.old.offence (first_offence self.old.bytes.now (layout kind (leg_count self.old.bytes.now))) }
+        ensures passed { Passed self.old self.new 104 (layout kind (leg_count self.old.bytes.now)) }
     {
         match kind {
             Kind::Place => {
