@@ -36,6 +36,5 @@ pub fn words_from<'a, 'b>(words: &'b [&'a [u8]], i: usize) -> &'b [&'a [u8]]
 pub fn is_passed_over(words: &[&[u8]]) -> bool
     ensures { result ≡ is_passed_over (lent words.now) }
 {
-    let first = word_at(words, 0);
-    first.is_empty() || first[0] == b'#'
+    matches!(words, [] | [[], ..] | [[b'#', ..], ..])
 }
