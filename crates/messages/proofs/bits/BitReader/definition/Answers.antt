@@ -1,6 +1,5 @@
 use Rattle.std.proofs.Common.{◌≡◌, ℕ, ltb, List, [], ◌∷◌, ◌++◌, refl, ap, ◌∙◌, arith}
 use Rattle.contents.specs.declared.message.LegFields.{LegFields}
-use Rattle.contents.specs.declared.message.Message.TheVariants.{Define}
 use Rattle.messages.specs.Layout.{Field, up_to, leg_layout, unused_bits}
 use Rattle.messages.specs.Reading.{first, first_offence, leg_at, leg_count}
 use Rattle.messages.proofs.Offences.{noted, all_noted}
@@ -34,7 +33,7 @@ returns c =
     let l3 = leg_where bs 42 s2 a2 c.leg-third.ensures.value in
     let l4 = leg_where bs 57 s3 a3 c.leg-fourth.ensures.value in
     record {
-      value = λ i. Define (count i) (l1 i ∷ (l2 i ∷ (l3 i ∷ (l4 i ∷ []))));
+      value = λ i. record { count = count i; legs = l1 i ∷ (l2 i ∷ (l3 i ∷ (l4 i ∷ []))) };
       noted =
           c.unused_bits.ensures.noted
           ∙ ap (λ (p : ℕ). first c.leg-fourth.new.self.offence (first_offence c.leg-fourth.new.self.bytes.now (unused_bits p 40))) a4
