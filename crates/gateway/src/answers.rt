@@ -1,5 +1,5 @@
 // What is printed of a line.
-ghost use Rattle.std.specs.Prelude.{◌≡◌, ◌++◌, length, IfOk, vec_items, string_bytes, codes, decimal};
+ghost use Rattle.std.specs.Prelude.{◌≡◌, IfOk, vec_items, string_bytes};
 ghost use Rattle.std.specs.Option.{option_map};
 ghost use Rattle.messages.specs.Reading.{read_of};
 ghost use Rattle.messages.specs.Writing.{write_answer, written};
