@@ -52,6 +52,7 @@ pub fn push_number(out: &mut String, n: u64) -> Result<(), AllocError>
 }
 
 // Adds a signed number in decimal, or nothing where memory fails. Read again it is the same number.
+// Not one generic function with the other: `read_again` would be a law, and all of proofs/ would have to stand in specs/.
 pub fn push_signed(out: &mut String, n: i64) -> Result<(), AllocError>
     ensures written { string_bytes out.new ≡ (if is_ok result then string_bytes out.old ++ signed_decimal n else string_bytes out.old) }
     ensures read_again { signed_in (signed_decimal n) ≡ Some n }
