@@ -16,7 +16,8 @@ use Rattle.gateway.specs.declared.tally.Complaint.TheVariants.{Unwritten, Overlo
 use Rattle.gateway.specs.declared.tally.Outcome.{Outcome}
 use Rattle.gateway.specs.declared.tally.Outcome.TheVariants.{Read, Refused, Written, Wrong}
 use Rattle.gateway.specs.declared.tally.Tally.{Tally}
-use Rattle.replies.specs.Texts.{newline, refusal_text}
+use Rattle.refusals.specs.Refusals.{refusal_text}
+use Rattle.replies.specs.Texts.{newline}
 use Rattle.lines.specs.Words.{word}
 use Rattle.gateway.specs.Commands.{bytes_in, message_in}
 use Rattle.gateway.specs.Texts.{message_text, is_beyond, warning_text, bytes_text}

@@ -1,10 +1,11 @@
 -- What the words of a line ask for: bytes to read, or a message to write.
-use Rattle.std.specs.Prelude.{ℕ, true, false, cond, List, [], ◌∷◌, length, drop, pos, Some, None, codes, Option, ◌==◌, nat_le, nat_lt, slice_index}
+use Rattle.std.specs.Prelude.{ℕ, ℤ, Bool, true, false, cond, List, [], ◌∷◌, length, drop, pos, Some, None, codes, Option, ◌==◌, nat_le, nat_lt, slice_index}
 use Rattle.std.specs.Str.{bytes_eq}
 use Rattle.contents.specs.declared.sides.LegSide.{LegSide}
 use Rattle.contents.specs.declared.sides.LegSide.TheVariants.{Bought, Sold}
 use Rattle.contents.specs.declared.sides.OrderSide.{OrderSide}
 use Rattle.contents.specs.declared.sides.OrderSide.TheVariants.{Buy, Sell}
+use Rattle.contents.specs.declared.time.TimeInForce.{TimeInForce}
 use Rattle.contents.specs.declared.time.TimeInForce.TheVariants.{Day, ImmediateOrCancel}
 use Rattle.contents.specs.declared.message.LegFields.{LegFields}
 use Rattle.contents.specs.declared.message.Message.{Message}
@@ -16,6 +17,7 @@ use Rattle.hex_bytes.specs.Bytes.{byte_in}
 use Rattle.numbers.specs.Numbers.{number_in, signed_in}
 use Rattle.text.specs.Words.{parts_at}
 use Rattle.gateway.specs.declared.commands.Limit.{Limit}
+use Rattle.gateway.specs.declared.commands.Limit.TheVariants.{Market, At}
 
 -- what follows from a part, if there is one
 abbrev pub then : {A B : Type 0} → Option A → (A → Option B) → Option B
@@ -28,11 +30,19 @@ side_in w = cond (bytes_eq w (codes "buy")) (Some Buy) (cond (bytes_eq w (codes 
 
 -- a limit is `market` or a signed number; a market order has limit 0
 abbrev pub limit_in : List ℕ → Option Limit
-limit_in w = cond (bytes_eq w (codes "market")) (Some (record { market = true; limit = pos 0 })) (then (signed_in w) (λ l. Some (record { market = false; limit = l })))
+limit_in w = cond (bytes_eq w (codes "market")) (Some Market) (then (signed_in w) (λ l. Some (At l)))
+
+abbrev pub is_market : Limit → Bool
+is_market Market = true
+is_market (At l) = false
+
+abbrev pub limit_number : Limit → ℤ
+limit_number Market = pos 0
+limit_number (At l) = l
 
 -- the time in force is `day` or `ioc`
-abbrev pub time_in : List ℕ → Option ℕ
-time_in w = cond (bytes_eq w (codes "day")) (Some (time_code Day)) (cond (bytes_eq w (codes "ioc")) (Some (time_code ImmediateOrCancel)) None)
+abbrev pub time_in : List ℕ → Option TimeInForce
+time_in w = cond (bytes_eq w (codes "day")) (Some Day) (cond (bytes_eq w (codes "ioc")) (Some ImmediateOrCancel) None)
 
 -- a leg is its series, a colon, `+` for bought or `-` for sold, and its ratio
 abbrev pub leg_of : LegSide → Option ℕ → Option ℕ → Option LegFields
@@ -50,17 +60,14 @@ leg_in w = then (parts_at 58 w) (λ p. signed_leg p.0 p.1)
 -- `place` takes a strategy, a side, a limit, a time in force and a quantity
 abbrev pub place_in : List ℕ → List ℕ → List ℕ → List ℕ → List ℕ → Option Message
 place_in strategy side limit time quantity =
-    then (number_in strategy) (λ s. then (side_in side) (λ d. then (limit_in limit) (λ l. then (time_in time) (λ t. then (number_in quantity) (λ q. Some (Place (record { strategy = s; side = d; market = l.market; time_in_force = t; limit = l.limit; quantity = q })))))))
+    then (number_in strategy) (λ s. then (side_in side) (λ d. then (limit_in limit) (λ l. then (time_in time) (λ t. then (number_in quantity) (λ q. Some (Place (record { strategy = s; side = d; market = is_market l; time_in_force = time_code t; limit = limit_number l; quantity = q })))))))
 
--- the words behind `place`, `cancel` and `evaluate`
 abbrev pub place_words : List (List ℕ) → Option Message
 place_words ws = cond (length ws == 5) (place_in (word ws 0) (word ws 1) (word ws 2) (word ws 3) (word ws 4)) None
 
-abbrev pub cancel_words : List (List ℕ) → Option Message
-cancel_words ws = cond (length ws == 1) (then (number_in (word ws 0)) (λ n. Some (Cancel n))) None
-
-abbrev pub evaluate_words : List (List ℕ) → Option Message
-evaluate_words ws = cond (length ws == 1) (then (number_in (word ws 0)) (λ s. Some (Evaluate s))) None
+-- `cancel` takes the number of an order, and `evaluate` a strategy
+abbrev pub number_words : List (List ℕ) → Option ℕ
+number_words ws = cond (length ws == 1) (number_in (word ws 0)) None
 
 -- `define` takes up to four legs; those that are not written are 0, and the count is the number of words
 abbrev pub leg_word : List (List ℕ) → ℕ → Option LegFields
@@ -76,8 +83,8 @@ define_words ws =
 abbrev pub kind_words : List ℕ → List (List ℕ) → Option Message
 kind_words kind ws =
     cond (bytes_eq kind (codes "place")) (place_words ws)
-    (cond (bytes_eq kind (codes "cancel")) (cancel_words ws)
-    (cond (bytes_eq kind (codes "evaluate")) (evaluate_words ws)
+    (cond (bytes_eq kind (codes "cancel")) (then (number_words ws) (λ n. Some (Cancel n)))
+    (cond (bytes_eq kind (codes "evaluate")) (then (number_words ws) (λ s. Some (Evaluate s)))
     (cond (bytes_eq kind (codes "define")) (define_words ws)
     None)))
 

@@ -1,20 +1,18 @@
 // What is printed of a line.
-ghost use Rattle.std.specs.Prelude.{◌≡◌, ◌++◌, length, IfOk, vec_items, string_bytes, codes, decimal};
+ghost use Rattle.std.specs.Prelude.{◌≡◌, IfOk, vec_items, string_bytes};
 ghost use Rattle.std.specs.Option.{option_map};
 ghost use Rattle.messages.specs.Reading.{read_of};
 ghost use Rattle.messages.specs.Writing.{write_answer, written};
 ghost use Rattle.text.specs.Words.{lent};
 ghost use Rattle.gateway.specs.Commands.{bytes_in, message_in};
 ghost use Rattle.gateway.specs.Texts.{gap_before, bytes_text};
-ghost use Rattle.replies.specs.Texts.{newline};
-ghost use Rattle.gateway.specs.Answers.{limit_warning, warning_of, is_warned, reading_text, reading_outcome, writing_text, room, line_bytes, complaint_of, error_text, other_reply, other_outcome, reply, outcome, line_text};
+ghost use Rattle.gateway.specs.Answers.{warning_of, is_warned, reading_text, reading_outcome, writing_text, room, line_bytes, complaint_of, other_reply, other_outcome, reply, outcome, line_text};
 
 use crate::commands::message_in;
 use crate::tally::{Complaint, Outcome};
 use crate::texts::{is_beyond, message_text, warning_text};
 use contents::{Message, Received};
 use hex_bytes::{hex_byte, push_hex_byte};
-use lines::words::{count, is, word_at};
 use messages::{read, write};
 use replies::{error_line, printed, refusal_text};
 use std::alloc::{AllocError, Global};
@@ -31,47 +29,20 @@ pub(crate) struct Reply {
 fn is_warned(message: &Message) -> bool
     ensures { result ≡ is_warned message.now }
 {
-    match *message {
-        Message::Place(order) => is_beyond(order.limit),
-        Message::Cancel { .. } | Message::Evaluate { .. } | Message::Define(_) => false,
-    }
+    matches!(message, Message::Place(order) if is_beyond(order.limit))
 }
 
-// A text on a line of its own, below another.
-fn below(heap: Global, text: &str) -> Result<String, AllocError>
-    ensures { IfOk result (λ t. string_bytes t ≡ newline ++ text.now) }
-{
-    format!(in heap; "\n{text}")
-}
-
-// The warning of a limit, if it is warned of.
-fn limit_warning(heap: Global, limit: i64) -> Result<String, AllocError>
-    ensures { IfOk result (λ t. string_bytes t ≡ limit_warning limit) }
-{
-    if !is_beyond(limit) {
-        return Ok(String::new(heap));
-    }
-    let warning = warning_text(heap, limit)?;
-    below(heap, warning.as_str())
-}
-
-// The warning behind a message, if it is warned of.
+// The warning below a message, if it is warned of.
 fn warning_of(heap: Global, message: &Message) -> Result<String, AllocError>
     ensures { IfOk result (λ t. string_bytes t ≡ warning_of message.now) }
 {
-    match *message {
-        Message::Place(order) => limit_warning(heap, order.limit),
-        Message::Cancel { .. } | Message::Evaluate { .. } | Message::Define(_) => Ok(
-            String::new(heap),
-        ),
+    match message {
+        Message::Place(order) if is_beyond(order.limit) => {
+            let warning = warning_text(heap, order.limit)?;
+            format!(in heap; "\n{warning}")
+        }
+        _ => Ok(String::new(heap)),
     }
-}
-
-// A text behind another.
-fn joined(heap: Global, first: &str, second: &str) -> Result<String, AllocError>
-    ensures { IfOk result (λ t. string_bytes t ≡ first.now ++ second.now) }
-{
-    format!(in heap; "{first}{second}")
 }
 
 // What is printed of bytes that were given to read.
@@ -82,10 +53,12 @@ fn reading(heap: Global, bytes: &[u8]) -> Result<Reply, AllocError>
         Ok(received) => {
             let said = message_text(heap, &received)?;
             let warning = warning_of(heap, &received.message)?;
-            let text = joined(heap, said.as_str(), warning.as_str())?;
+            let text = format!(in heap; "{said}{warning}")?;
             Ok(Reply {
                 text,
-                outcome: Outcome::Read(is_warned(&received.message)),
+                outcome: Outcome::Read {
+                    warned: is_warned(&received.message),
+                },
             })
         }
         Err(fault) => {
@@ -146,7 +119,7 @@ fn bytes_in(heap: Global, words: &[&[u8]]) -> Result<Option<Vec<u8>>, AllocError
 fn line_bytes(heap: Global, words: &[&[u8]]) -> Result<Option<Vec<u8>>, AllocError>
     ensures { IfOk result (λ o. option_map vec_items o ≡ line_bytes (lent words.now)) }
 {
-    if count(words) > 64 {
+    if words.len() > 64 {
         Ok(None)
     } else {
         bytes_in(heap, words)
@@ -157,12 +130,10 @@ fn line_bytes(heap: Global, words: &[&[u8]]) -> Result<Option<Vec<u8>>, AllocErr
 fn complaint_of(words: &[&[u8]]) -> Complaint
     ensures { result ≡ complaint_of (lent words.now) }
 {
-    if is(word_at(words, 0), "write") {
-        Complaint::Unwritten
-    } else if count(words) > 64 {
-        Complaint::Overlong
-    } else {
-        Complaint::Unknown
+    match words {
+        [b"write", ..] => Complaint::Unwritten,
+        _ if words.len() > 64 => Complaint::Overlong,
+        _ => Complaint::Unknown,
     }
 }
 
@@ -179,7 +150,7 @@ fn other_reply(heap: Global, line: u64, words: &[&[u8]]) -> Result<Reply, AllocE
             })
         }
         None => {
-            let text = error_line(heap, line, complaint_of(words).text())?;
+            let text = error_line(heap, line, complaint_of(words).to_string(heap)?.as_str())?;
             Ok(Reply {
                 text,
                 outcome: Outcome::Wrong,

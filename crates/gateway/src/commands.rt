@@ -1,31 +1,28 @@
 // What the words of a line ask for.
 ghost use Rattle.std.specs.Prelude.{◌≡◌};
-ghost use Rattle.gateway.specs.Commands.{side_in, limit_in, time_in, leg_of, signed_leg, leg_in, place_in, place_words, cancel_words, evaluate_words, leg_word, define_words, kind_words, message_in};
+ghost use Rattle.gateway.specs.Commands.{side_in, limit_in, time_in, leg_of, signed_leg, leg_in, place_words, number_words, leg_word, define_words, kind_words, message_in};
 ghost use Rattle.numbers.specs.Numbers.{number_in};
 ghost use Rattle.text.specs.Words.{lent};
 
 use contents::{DefineFields, LegFields, LegSide, Message, OrderSide, PlaceFields, TimeInForce};
-use lines::words::{count, is, word_at, words_from};
 use numbers::{number, signed_number};
 use text::words::split_once;
 
-// The limit of an order: whether it is a market order, and the number.
+// The limit of an order, which a market order has not.
 #[derive(Clone, Copy)]
-pub(crate) struct Limit {
-    pub(crate) market: bool,
-    pub(crate) limit: i64,
+pub(crate) enum Limit {
+    Market,
+    At(i64),
 }
 
 // The side that a word names.
 fn side_named(word: &[u8]) -> Option<OrderSide>
     ensures { result ≡ side_in word.now }
 {
-    if is(word, "buy") {
-        Some(OrderSide::Buy)
-    } else if is(word, "sell") {
-        Some(OrderSide::Sell)
-    } else {
-        None
+    match word {
+        b"buy" => Some(OrderSide::Buy),
+        b"sell" => Some(OrderSide::Sell),
+        _ => None,
     }
 }
 
@@ -33,29 +30,20 @@ fn side_named(word: &[u8]) -> Option<OrderSide>
 fn limit_named(word: &[u8]) -> Option<Limit>
     ensures { result ≡ limit_in word.now }
 {
-    if is(word, "market") {
-        return Some(Limit {
-            market: true,
-            limit: 0,
-        });
+    match word {
+        b"market" => Some(Limit::Market),
+        _ => Some(Limit::At(signed_number(word)?)),
     }
-    let limit = signed_number(word)?;
-    Some(Limit {
-        market: false,
-        limit,
-    })
 }
 
-// The code of the time in force that a word names.
-fn time_named(word: &[u8]) -> Option<u64>
+// The time in force that a word names.
+fn time_named(word: &[u8]) -> Option<TimeInForce>
     ensures { result ≡ time_in word.now }
 {
-    if is(word, "day") {
-        Some(TimeInForce::Day.into())
-    } else if is(word, "ioc") {
-        Some(TimeInForce::ImmediateOrCancel.into())
-    } else {
-        None
+    match word {
+        b"day" => Some(TimeInForce::Day),
+        b"ioc" => Some(TimeInForce::ImmediateOrCancel),
+        _ => None,
     }
 }
 
@@ -76,13 +64,9 @@ fn leg_of(side: LegSide, series: &[u8], ratio: &[u8]) -> Option<LegFields>
 fn signed_leg(series: &[u8], signed: &[u8]) -> Option<LegFields>
     ensures { result ≡ signed_leg series.now signed.now }
 {
-    if signed.is_empty() {
-        return None;
-    }
-    let ratio = &signed[1..];
-    match signed[0] {
-        b'+' => leg_of(LegSide::Bought, series, ratio),
-        b'-' => leg_of(LegSide::Sold, series, ratio),
+    match signed {
+        [b'+', ratio @ ..] => leg_of(LegSide::Bought, series, ratio),
+        [b'-', ratio @ ..] => leg_of(LegSide::Sold, series, ratio),
         _ => None,
     }
 }
@@ -96,19 +80,19 @@ fn leg_named(word: &[u8]) -> Option<LegFields>
 }
 
 // The message that the words behind `place` say.
-fn placing(
-    strategy: &[u8],
-    side: &[u8],
-    limit: &[u8],
-    time: &[u8],
-    quantity: &[u8],
-) -> Option<Message>
-    ensures { result ≡ place_in strategy.now side.now limit.now time.now quantity.now }
+fn place_words(words: &[&[u8]]) -> Option<Message>
+    ensures { result ≡ place_words (lent words.now) }
 {
+    let [strategy, side, limit, time, quantity] = words else {
+        return None;
+    };
     let strategy = number(strategy)?;
     let side = side_named(side)?;
-    let Limit { market, limit } = limit_named(limit)?;
-    let time_in_force = time_named(time)?;
+    let (market, limit) = match limit_named(limit)? {
+        Limit::Market => (true, 0),
+        Limit::At(limit) => (false, limit),
+    };
+    let time_in_force = time_named(time)?.into();
     let quantity = number(quantity)?;
     Some(Message::Place(PlaceFields {
         strategy,
@@ -120,70 +104,46 @@ fn placing(
     }))
 }
 
-// The message that the words behind `place` say, if there are as many as it takes.
-fn place_words(words: &[&[u8]]) -> Option<Message>
-    ensures { result ≡ place_words (lent words.now) }
+// The one number behind `cancel` and `evaluate`.
+fn number_words(words: &[&[u8]]) -> Option<u64>
+    ensures { result ≡ number_words (lent words.now) }
 {
-    if count(words) != 5 {
+    let [word] = words else {
         return None;
-    }
-    placing(
-        word_at(words, 0),
-        word_at(words, 1),
-        word_at(words, 2),
-        word_at(words, 3),
-        word_at(words, 4),
-    )
-}
-
-fn cancel_words(words: &[&[u8]]) -> Option<Message>
-    ensures { result ≡ cancel_words (lent words.now) }
-{
-    if count(words) != 1 {
-        return None;
-    }
-    let number = number(word_at(words, 0))?;
-    Some(Message::Cancel { number })
-}
-
-fn evaluate_words(words: &[&[u8]]) -> Option<Message>
-    ensures { result ≡ evaluate_words (lent words.now) }
-{
-    if count(words) != 1 {
-        return None;
-    }
-    let strategy = number(word_at(words, 0))?;
-    Some(Message::Evaluate { strategy })
+    };
+    number(word)
 }
 
 // The leg of a place, which is 0 where no word names one.
 fn leg_word(words: &[&[u8]], i: usize) -> Option<LegFields>
     ensures { result ≡ leg_word (lent words.now) i }
 {
-    if i < count(words) {
-        leg_named(word_at(words, i))
-    } else {
-        Some(LegFields {
+    match words.get(i) {
+        Some(word) => leg_named(word),
+        None => Some(LegFields {
             series: 0,
             side: LegSide::Bought,
             ratio: 0,
-        })
+        }),
     }
 }
 
+// The message that the words behind `define` say.
 fn define_words(words: &[&[u8]]) -> Option<Message>
     ensures { result ≡ define_words (lent words.now) }
 {
-    if count(words) > 4 {
+    if words.len() > 4 {
         return None;
     }
-    let first = leg_word(words, 0)?;
-    let second = leg_word(words, 1)?;
-    let third = leg_word(words, 2)?;
-    let fourth = leg_word(words, 3)?;
+    let legs = [
+        leg_word(words, 0)?,
+        leg_word(words, 1)?,
+        leg_word(words, 2)?,
+        leg_word(words, 3)?,
+    ];
     Some(Message::Define(DefineFields {
-        count: count(words) as u64,
-        legs: [first, second, third, fourth],
+        count: words.len() as u64,
+        legs,
     }))
 }
 
@@ -191,16 +151,12 @@ fn define_words(words: &[&[u8]]) -> Option<Message>
 fn kind_words(kind: &[u8], words: &[&[u8]]) -> Option<Message>
     ensures { result ≡ kind_words kind.now (lent words.now) }
 {
-    if is(kind, "place") {
-        place_words(words)
-    } else if is(kind, "cancel") {
-        cancel_words(words)
-    } else if is(kind, "evaluate") {
-        evaluate_words(words)
-    } else if is(kind, "define") {
-        define_words(words)
-    } else {
-        None
+    match kind {
+        b"place" => place_words(words),
+        b"cancel" => number_words(words).map(|number| Message::Cancel { number }),
+        b"evaluate" => number_words(words).map(|strategy| Message::Evaluate { strategy }),
+        b"define" => define_words(words),
+        _ => None,
     }
 }
 
@@ -208,9 +164,11 @@ fn kind_words(kind: &[u8], words: &[&[u8]]) -> Option<Message>
 pub(crate) fn message_in(words: &[&[u8]]) -> Option<Message>
     ensures { result ≡ message_in (lent words.now) }
 {
-    if count(words) > 1 && is(word_at(words, 0), "write") {
-        kind_words(word_at(words, 1), words_from(words, 2))
-    } else {
-        None
+    let [name, kind, words @ ..] = words else {
+        return None;
+    };
+    match *name {
+        b"write" => kind_words(kind, words),
+        _ => None,
     }
 }

@@ -29,7 +29,7 @@ fn main(rt: HostRuntime) -> anyhow::Result<()> {
         rt.print(reply.text.as_str())?;
         tally = tally.counted(reply.outcome);
     }
-    rt.println(tally.text(heap)?)?;
+    rt.println(tally)?;
     if tally.errors > 0 {
         return Err(anyhow!("some lines are neither messages nor commands"));
     }

@@ -1,14 +1,17 @@
 // What came of each line, and the counts of a run.
-ghost use Rattle.std.specs.Prelude.{◌≡◌, IfOk, string_bytes};
-ghost use Rattle.gateway.specs.Answers.{complaint_text, more, more_if, nothing_counted, counted, tally_text};
+ghost use Rattle.std.specs.Prelude.{◌≡◌, Some};
+ghost use Rattle.gateway.specs.Answers.{complaint_text, nothing_counted, counted, tally_text};
 
-use std::alloc::{AllocError, Global};
+use std::fmt;
 
 // What came of a line.
 #[derive(Clone, Copy)]
 pub(crate) enum Outcome {
-    // a message was read, and its limit warned of or not
-    Read(bool),
+    // a message was read
+    Read {
+        // whether its limit is warned of
+        warned: bool,
+    },
     // bytes were no message
     Refused,
     // a message was to be written
@@ -28,16 +31,15 @@ pub(crate) enum Complaint {
     Unknown,
 }
 
-impl Complaint {
-    // What is printed of it.
-    pub(crate) fn text(self) -> &'static str
-        ensures { result.now ≡ complaint_text self }
-    {
-        match self {
+impl fmt::Display for Complaint {
+    ghost output = { λ c. Some (complaint_text c) };
+
+    fn fmt<W: fmt::Write>(&self, f: &mut fmt::Formatter<W>) -> fmt::Result {
+        f.write_str(match self {
             Complaint::Unwritten => "no message to write",
             Complaint::Overlong => "more than 64 bytes",
             Complaint::Unknown => "neither hexadecimal bytes nor a command",
-        }
+        })
     }
 }
 
@@ -49,18 +51,6 @@ pub(crate) struct Tally {
     pub(crate) refused: u64,
     pub(crate) warnings: u64,
     pub(crate) errors: u64,
-}
-
-fn one_more(n: u64) -> u64
-    ensures { result ≡ more n }
-{
-    n.saturating_add(1)
-}
-
-fn one_more_if(more: bool, n: u64) -> u64
-    ensures { result ≡ more_if more n }
-{
-    if more { one_more(n) } else { n }
 }
 
 impl Tally {
@@ -83,29 +73,34 @@ impl Tally {
     {
         let mut tally = self;
         match outcome {
-            Outcome::Read(warned) => {
-                tally.messages = one_more(self.messages);
-                tally.read = one_more(self.read);
-                tally.warnings = one_more_if(warned, self.warnings);
+            Outcome::Read { warned } => {
+                tally.messages = self.messages.saturating_add(1);
+                tally.read = self.read.saturating_add(1);
+                tally.warnings = self.warnings.saturating_add(u64::from(warned));
             }
             Outcome::Refused => {
-                tally.messages = one_more(self.messages);
-                tally.refused = one_more(self.refused);
+                tally.messages = self.messages.saturating_add(1);
+                tally.refused = self.refused.saturating_add(1);
             }
             Outcome::Written => {}
-            Outcome::Wrong => tally.errors = one_more(self.errors),
+            Outcome::Wrong => tally.errors = self.errors.saturating_add(1),
         }
         tally
     }
+}
 
-    // The last line of a run.
-    pub(crate) fn text(&self, heap: Global) -> Result<String, AllocError>
-        ensures { IfOk result (λ t. string_bytes t ≡ tally_text self.now) }
-    {
-        let messages = self.messages;
-        let read = self.read;
-        let refused = self.refused;
-        let warnings = self.warnings;
-        format!(in heap; "messages {messages} read {read} refused {refused} warnings {warnings}")
+// The last line of a run.
+impl fmt::Display for Tally {
+    ghost output = { λ t. Some (tally_text t) };
+
+    fn fmt<W: fmt::Write>(&self, f: &mut fmt::Formatter<W>) -> fmt::Result {
+        let Tally {
+            messages,
+            read,
+            refused,
+            warnings,
+            errors: _,
+        } = *self;
+        write!(f, "messages {messages} read {read} refused {refused} warnings {warnings}")
     }
 }

@@ -10,12 +10,8 @@ fn digit_value(b: u8) -> Option<u8>
     ensures checked { SomeIff result (HexDigit b) (hex_value b) }
     ensures below { IfSome result (λ d. d < 16) }
 {
-    match b {
-        b'0'..=b'9' => Some(b - b'0'),
-        b'A'..=b'F' => Some(b - b'A' + 10),
-        b'a'..=b'f' => Some(b - b'a' + 10),
-        _ => None,
-    }
+    let digit = char::from(b).to_digit(16)?;
+    Some(digit as u8)
 }
 
 // The byte that a word writes: two hexadecimal digits, each in either case.

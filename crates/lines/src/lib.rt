@@ -1,4 +1,4 @@
-// The words of a line, one by one.
+// Which lines are passed over, and the words of a line by their places.
 
 #![tactic(auto)]
 

@@ -31,32 +31,14 @@ pub fn number(word: &[u8]) -> Option<u64>
     Some(n)
 }
 
-// The number `n` as a signed one, if it fits.
-fn positive(n: u64) -> Option<i64>
-    ensures { SomeIff result (n < 2 ^ 63) (pos n) }
-{
-    i64::try_from(n).ok()
-}
-
-// The number `-n`, if it fits: the lowest has no positive counterpart, so one of `n` is taken apart first.
-fn negative(n: u64) -> Option<i64>
-    ensures { SomeIff result (n < 2 ^ 63 + 1) (neg_ℤ (pos n)) }
-{
-    if n == 0 {
-        return Some(0);
-    }
-    let rest = i64::try_from(n - 1).ok()?;
-    Some(-1 - rest)
-}
-
 // The signed number that a word writes: digits, with a `-` before them or not, and a value within 64 bits.
 pub fn signed_number(word: &[u8]) -> Option<i64>
     ensures answer { result ≡ signed_in word.now }
     ensures accepts { SomeIff result (SignedNumber word.now) (signed_value word.now) }
 {
     match word {
-        [b'-', digits @ ..] => negative(number(digits)?),
-        _ => positive(number(word)?),
+        [b'-', digits @ ..] => 0i64.checked_sub_unsigned(number(digits)?),
+        _ => i64::try_from(number(word)?).ok(),
     }
 }
 
@@ -70,6 +52,7 @@ pub fn push_number(out: &mut String, n: u64) -> Result<(), AllocError>
 }
 
 // Adds a signed number in decimal, or nothing where memory fails. Read again it is the same number.
+// Not one generic function with the other: `read_again` would be a law, and all of proofs/ would have to stand in specs/.
 pub fn push_signed(out: &mut String, n: i64) -> Result<(), AllocError>
     ensures written { string_bytes out.new ≡ (if is_ok result then string_bytes out.old ++ signed_decimal n else string_bytes out.old) }
     ensures read_again { signed_in (signed_decimal n) ≡ Some n }

@@ -3,6 +3,7 @@ use Rattle.std.specs.Prelude.{ℕ, ◌^◌, Bool, true, false, cond, List, lengt
 use Rattle.std.specs.Str.{bytes_eq}
 use Rattle.simple.specs.declared.lot.Side.{Side}
 use Rattle.simple.specs.declared.lot.Side.TheVariants.{Bid, Offer}
+use Rattle.simple.specs.Lots.{lot_at}
 use Rattle.numbers.specs.Numbers.{number_in}
 use Rattle.lines.specs.Words.{word}
 use Rattle.replay.specs.declared.answer.Complaint.{Complaint}
@@ -13,6 +14,7 @@ use Rattle.replay.specs.declared.command.Command.TheVariants.{Open, ToBook, ToLa
 use Rattle.replay.specs.declared.command.Entry.{Entry}
 use Rattle.replay.specs.declared.command.Kind.{Kind}
 use Rattle.replay.specs.declared.command.Kind.TheVariants.{Board, Depth}
+use Rattle.replay.specs.declared.command.LayerCall.{LayerCall}
 use Rattle.replay.specs.declared.command.LayerCall.TheVariants.{Best, Take, Hold, Release}
 
 -- what follows from a part, if there is one
@@ -42,60 +44,47 @@ kind_in w = cond (bytes_eq w (codes "board")) (Some Board) (cond (bytes_eq w (co
 -- `quote` and `post` take a series, a side, a class, a price and a size
 abbrev pub entry_in : List ℕ → List ℕ → List ℕ → List ℕ → List ℕ → Option Entry
 entry_in series side class price size =
-    then (small_in series) (λ s. then (side_in side) (λ d. then (class_in class) (λ c. then (small_in price) (λ p. then (small_in size) (λ n. Some (record { series = s; side = d; customer = c; price = p; size = n }))))))
+    then (small_in series) (λ s. then (side_in side) (λ d. then (class_in class) (λ c. then (small_in price) (λ p. then (small_in size) (λ n. Some (record { series = s; side = d; lot = lot_at p n c }))))))
 
 abbrev pub entry_words : List (List ℕ) → Option Entry
 entry_words ws = cond (length ws == 5) (entry_in (word ws 0) (word ws 1) (word ws 2) (word ws 3) (word ws 4)) None
 
-abbrev pub quote_words : List (List ℕ) → Option Command
-quote_words ws = then (entry_words ws) (λ e. Some (ToBook (Quote e)))
+-- `withdraw` takes the number of a lot, `hold` and `release` a series, and `book` a kind
+abbrev pub number_words : List (List ℕ) → Option ℕ
+number_words ws = cond (length ws == 1) (small_in (word ws 0)) None
 
-abbrev pub post_words : List (List ℕ) → Option Command
-post_words ws = then (entry_words ws) (λ e. Some (ToBook (Post e)))
-
--- `withdraw` takes the number of a lot, and `book` a kind
-abbrev pub withdraw_words : List (List ℕ) → Option Command
-withdraw_words ws = cond (length ws == 1) (then (small_in (word ws 0)) (λ n. Some (ToBook (Withdraw n)))) None
-
-abbrev pub book_words : List (List ℕ) → Option Command
-book_words ws = cond (length ws == 1) (then (kind_in (word ws 0)) (λ k. Some (Open k))) None
+abbrev pub book_words : List (List ℕ) → Option Kind
+book_words ws = cond (length ws == 1) (kind_in (word ws 0)) None
 
 -- `best` takes a series and a side, and `take` a quantity besides
-abbrev pub best_words : List (List ℕ) → Option Command
-best_words ws = cond (length ws == 2) (then (small_in (word ws 0)) (λ s. then (side_in (word ws 1)) (λ d. Some (ToLayer (Best s d))))) None
+abbrev pub best_words : List (List ℕ) → Option LayerCall
+best_words ws = cond (length ws == 2) (then (small_in (word ws 0)) (λ s. then (side_in (word ws 1)) (λ d. Some (Best s d)))) None
 
-abbrev pub take_in : List ℕ → List ℕ → List ℕ → Option Command
-take_in series side quantity = then (small_in series) (λ s. then (side_in side) (λ d. then (small_in quantity) (λ q. Some (ToLayer (Take s d q)))))
+abbrev pub take_in : List ℕ → List ℕ → List ℕ → Option LayerCall
+take_in series side quantity = then (small_in series) (λ s. then (side_in side) (λ d. then (small_in quantity) (λ q. Some (Take s d q))))
 
-abbrev pub take_words : List (List ℕ) → Option Command
+abbrev pub take_words : List (List ℕ) → Option LayerCall
 take_words ws = cond (length ws == 3) (take_in (word ws 0) (word ws 1) (word ws 2)) None
 
--- `hold` and `release` take a series
-abbrev pub hold_words : List (List ℕ) → Option Command
-hold_words ws = cond (length ws == 1) (then (small_in (word ws 0)) (λ s. Some (ToLayer (Hold s)))) None
-
-abbrev pub release_words : List (List ℕ) → Option Command
-release_words ws = cond (length ws == 1) (then (small_in (word ws 0)) (λ s. Some (ToLayer (Release s)))) None
-
 -- a command is its name and the words that it takes
-abbrev pub worded : Option Command → Result Command Complaint
-worded None = Err Misworded
-worded (Some c) = Ok c
+abbrev pub worded : {A : Type 0} → (A → Command) → Option A → Result Command Complaint
+worded command None = Err Misworded
+worded command (Some a) = Ok (command a)
 
 abbrev pub book_call_in : List ℕ → List (List ℕ) → Result Command Complaint
 book_call_in name ws =
-    cond (bytes_eq name (codes "book")) (worded (book_words ws))
-    (cond (bytes_eq name (codes "quote")) (worded (quote_words ws))
-    (cond (bytes_eq name (codes "post")) (worded (post_words ws))
-    (cond (bytes_eq name (codes "withdraw")) (worded (withdraw_words ws))
+    cond (bytes_eq name (codes "book")) (worded Open (book_words ws))
+    (cond (bytes_eq name (codes "quote")) (worded (λ e. ToBook (Quote e)) (entry_words ws))
+    (cond (bytes_eq name (codes "post")) (worded (λ e. ToBook (Post e)) (entry_words ws))
+    (cond (bytes_eq name (codes "withdraw")) (worded (λ n. ToBook (Withdraw n)) (number_words ws))
     (Err Unknown))))
 
 abbrev pub layer_call_in : List ℕ → List (List ℕ) → Result Command Complaint
 layer_call_in name ws =
-    cond (bytes_eq name (codes "best")) (worded (best_words ws))
-    (cond (bytes_eq name (codes "take")) (worded (take_words ws))
-    (cond (bytes_eq name (codes "hold")) (worded (hold_words ws))
-    (cond (bytes_eq name (codes "release")) (worded (release_words ws))
+    cond (bytes_eq name (codes "best")) (worded ToLayer (best_words ws))
+    (cond (bytes_eq name (codes "take")) (worded ToLayer (take_words ws))
+    (cond (bytes_eq name (codes "hold")) (worded (λ s. ToLayer (Hold s)) (number_words ws))
+    (cond (bytes_eq name (codes "release")) (worded (λ s. ToLayer (Release s)) (number_words ws))
     (book_call_in name ws))))
 
 abbrev pub command_in : List (List ℕ) → Result Command Complaint

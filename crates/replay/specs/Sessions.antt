@@ -1,9 +1,8 @@
 -- What each line of a session is answered with, and what it leaves.
 use Rattle.std.specs.Prelude.{ℕ, Ok, Err, Result}
 use Rattle.refusals.specs.declared.refusal.Refusal.{Refusal}
-use Rattle.simple.specs.declared.lot.Lot.{Lot}
 use Rattle.boards.specs.declared.board.QuoteBoard.{QuoteBoard}
-use Rattle.simple.specs.Lots.{Lots, lot_at}
+use Rattle.simple.specs.Lots.{Lots}
 use Rattle.simple.specs.Take.{after}
 use Rattle.boards.specs.Board.{board_lots, quote_answer, quoted}
 use Rattle.holds.specs.Hold.{Marks}
@@ -58,18 +57,14 @@ said_marks m (Ok (ToBook c)) = m
 said_marks m (Ok (ToLayer c)) = marks_after m c
 said_marks m (Err e) = m
 
--- the lot that is quoted or posted
-abbrev pub entry_lot : Entry → Lot
-entry_lot e = lot_at e.price e.size e.customer
-
 -- a board has quotes alone
 abbrev pub board_answers : QuoteBoard → CallAnswers
-board_answers b (Quote e) = done_answer (quote_answer e.series (entry_lot e))
+board_answers b (Quote e) = done_answer (quote_answer e.series e.lot)
 board_answers b (Post e) = Wrong Unfit
 board_answers b (Withdraw n) = Wrong Unfit
 
 abbrev pub board_leaves : QuoteBoard → CallLists
-board_leaves b (Quote e) = after (quote_answer e.series (entry_lot e)) (quoted (board_lots b) e.series e.side (entry_lot e)) (board_lots b)
+board_leaves b (Quote e) = after (quote_answer e.series e.lot) (quoted (board_lots b) e.series e.side e.lot) (board_lots b)
 board_leaves b (Post e) = board_lots b
 board_leaves b (Withdraw n) = board_lots b
 
@@ -80,7 +75,7 @@ posted_answer (Err r) = Refused r
 
 -- a depth book has posts and withdrawals
 abbrev pub post_of : DepthBook → Entry → Result ℕ Refusal
-post_of b e = post_answer (places b) (standing b) (posted_count b) e.series e.side (entry_lot e)
+post_of b e = post_answer (places b) (standing b) (posted_count b) e.series e.side e.lot
 
 abbrev pub depth_answers : DepthBook → CallAnswers
 depth_answers b (Quote e) = Wrong Unfit
@@ -89,5 +84,5 @@ depth_answers b (Withdraw n) = done_answer (withdraw_answer n (standing b))
 
 abbrev pub depth_leaves : DepthBook → CallLists
 depth_leaves b (Quote e) = depth_lots b
-depth_leaves b (Post e) = after (post_of b e) (with_lot (depth_lots b) e.series e.side (entry_lot e)) (depth_lots b)
+depth_leaves b (Post e) = after (post_of b e) (with_lot (depth_lots b) e.series e.side e.lot) (depth_lots b)
 depth_leaves b (Withdraw n) = lots_of (without_lot n (standing b))

@@ -1,7 +1,8 @@
 -- What is printed of each answer.
 use Rattle.std.specs.Prelude.{ℕ, List, ◌++◌, Some, None, codes, decimal, Option}
 use Rattle.simple.specs.declared.lot.Best.{Best}
-use Rattle.replies.specs.Texts.{newline, refusal_text}
+use Rattle.refusals.specs.Refusals.{refusal_text}
+use Rattle.replies.specs.Texts.{newline}
 use Rattle.replay.specs.declared.answer.Answer.{Answer}
 use Rattle.replay.specs.declared.answer.Answer.TheVariants.{Done, Lot, Best as best, Refused, Wrong}
 use Rattle.replay.specs.declared.answer.Complaint.{Complaint}

@@ -17,9 +17,9 @@ impl SessionBook for QuoteBoard {
             BookCall::Quote(entry) => done_answer(self.quote(
                 entry.series,
                 entry.side,
-                entry.customer,
-                entry.price,
-                entry.size,
+                entry.lot.customer,
+                entry.lot.price,
+                entry.lot.size,
             )),
             BookCall::Post(_) | BookCall::Withdraw(_) => Answer::Wrong(Complaint::Unfit),
         }

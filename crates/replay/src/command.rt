@@ -1,5 +1,5 @@
 // What a line of a session can ask for.
-use simple::Side;
+use simple::{Lot, Side};
 
 // The kinds of books.
 #[derive(Clone, Copy)]
@@ -13,10 +13,7 @@ pub(crate) enum Kind {
 pub(crate) struct Entry {
     pub(crate) series: u32,
     pub(crate) side: Side,
-    // whether a Priority Customer owns it
-    pub(crate) customer: bool,
-    pub(crate) price: u32,
-    pub(crate) size: u32,
+    pub(crate) lot: Lot,
 }
 
 // A call of the book itself, which not every kind of book has.

@@ -1,38 +1,28 @@
 // What the words of a line ask for.
-ghost use Rattle.std.specs.Prelude.{◌≡◌, ◌^◌, cond, Some, None};
+ghost use Rattle.std.specs.Prelude.{◌≡◌};
 ghost use Rattle.text.specs.Words.{lent};
-ghost use Rattle.replay.specs.Commands.{within_32, small_in, side_in, class_in, kind_in, entry_in, entry_words, book_words, quote_words, post_words, withdraw_words, best_words, take_in, take_words, hold_words, release_words, worded, book_call_in, layer_call_in, command_in};
+ghost use Rattle.replay.specs.Commands.{small_in, side_in, class_in, kind_in, entry_words, number_words, book_words, best_words, take_words, layer_call_in, command_in};
 
 use crate::answer::Complaint;
 use crate::command::{BookCall, Command, Entry, Kind, LayerCall};
-use lines::words::{count, is, word_at, words_from};
 use numbers::number;
-use simple::Side;
+use simple::{Lot, Side};
 
-// A number, if it is within 32 bits.
-fn within_32(n: u64) -> Option<u32>
-    ensures { result ≡ within_32 n }
-{
-    if n < 1 << 32 { Some(n as u32) } else { None }
-}
-
-// The number that a word names.
+// The number that a word names, if it is within 32 bits.
 fn small_number(word: &[u8]) -> Option<u32>
     ensures { result ≡ small_in word.now }
 {
-    within_32(number(word)?)
+    u32::try_from(number(word)?).ok()
 }
 
 // The side that a word names.
 fn side_named(word: &[u8]) -> Option<Side>
     ensures { result ≡ side_in word.now }
 {
-    if is(word, "bid") {
-        Some(Side::Bid)
-    } else if is(word, "offer") {
-        Some(Side::Offer)
-    } else {
-        None
+    match word {
+        b"bid" => Some(Side::Bid),
+        b"offer" => Some(Side::Offer),
+        _ => None,
     }
 }
 
@@ -40,12 +30,10 @@ fn side_named(word: &[u8]) -> Option<Side>
 fn class_named(word: &[u8]) -> Option<bool>
     ensures { result ≡ class_in word.now }
 {
-    if is(word, "customer") {
-        Some(true)
-    } else if is(word, "maker") {
-        Some(false)
-    } else {
-        None
+    match word {
+        b"customer" => Some(true),
+        b"maker" => Some(false),
+        _ => None,
     }
 }
 
@@ -53,183 +41,103 @@ fn class_named(word: &[u8]) -> Option<bool>
 fn kind_named(word: &[u8]) -> Option<Kind>
     ensures { result ≡ kind_in word.now }
 {
-    if is(word, "board") {
-        Some(Kind::Board)
-    } else if is(word, "depth") {
-        Some(Kind::Depth)
-    } else {
-        None
+    match word {
+        b"board" => Some(Kind::Board),
+        b"depth" => Some(Kind::Depth),
+        _ => None,
     }
 }
 
-// What five words say is quoted or posted.
-fn entry_of(series: &[u8], side: &[u8], class: &[u8], price: &[u8], size: &[u8]) -> Option<Entry>
-    ensures { result ≡ entry_in series.now side.now class.now price.now size.now }
+// What the words behind `quote` and `post` say.
+fn entry_words(words: &[&[u8]]) -> Option<Entry>
+    ensures { result ≡ entry_words (lent words.now) }
 {
+    let [series, side, class, price, size] = words else {
+        return None;
+    };
     let series = small_number(series)?;
     let side = side_named(side)?;
     let customer = class_named(class)?;
     let price = small_number(price)?;
     let size = small_number(size)?;
-    Some(Entry {
-        series,
-        side,
-        customer,
+    let lot = Lot {
         price,
         size,
-    })
+        customer,
+    };
+    Some(Entry { series, side, lot })
 }
 
-// The words behind `quote` and `post`, if there are as many as they take.
-fn entry_words(words: &[&[u8]]) -> Option<Entry>
-    ensures { result ≡ entry_words (lent words.now) }
+// The one number behind `withdraw`, `hold` and `release`.
+fn number_words(words: &[&[u8]]) -> Option<u32>
+    ensures { result ≡ number_words (lent words.now) }
 {
-    if count(words) != 5 {
+    let [word] = words else {
         return None;
-    }
-    entry_of(
-        word_at(words, 0),
-        word_at(words, 1),
-        word_at(words, 2),
-        word_at(words, 3),
-        word_at(words, 4),
-    )
+    };
+    small_number(word)
 }
 
-fn book_words(words: &[&[u8]]) -> Option<Command>
+fn book_words(words: &[&[u8]]) -> Option<Kind>
     ensures { result ≡ book_words (lent words.now) }
 {
-    if count(words) != 1 {
+    let [kind] = words else {
         return None;
-    }
-    let kind = kind_named(word_at(words, 0))?;
-    Some(Command::Open(kind))
+    };
+    kind_named(kind)
 }
 
-fn quote_words(words: &[&[u8]]) -> Option<Command>
-    ensures { result ≡ quote_words (lent words.now) }
-{
-    let entry = entry_words(words)?;
-    Some(Command::ToBook(BookCall::Quote(entry)))
-}
-
-fn post_words(words: &[&[u8]]) -> Option<Command>
-    ensures { result ≡ post_words (lent words.now) }
-{
-    let entry = entry_words(words)?;
-    Some(Command::ToBook(BookCall::Post(entry)))
-}
-
-fn withdraw_words(words: &[&[u8]]) -> Option<Command>
-    ensures { result ≡ withdraw_words (lent words.now) }
-{
-    if count(words) != 1 {
-        return None;
-    }
-    let lot = small_number(word_at(words, 0))?;
-    Some(Command::ToBook(BookCall::Withdraw(lot)))
-}
-
-fn best_words(words: &[&[u8]]) -> Option<Command>
+fn best_words(words: &[&[u8]]) -> Option<LayerCall>
     ensures { result ≡ best_words (lent words.now) }
 {
-    if count(words) != 2 {
+    let [series, side] = words else {
         return None;
-    }
-    let series = small_number(word_at(words, 0))?;
-    let side = side_named(word_at(words, 1))?;
-    Some(Command::ToLayer(LayerCall::Best { series, side }))
+    };
+    let series = small_number(series)?;
+    let side = side_named(side)?;
+    Some(LayerCall::Best { series, side })
 }
 
-fn take_of(series: &[u8], side: &[u8], quantity: &[u8]) -> Option<Command>
-    ensures { result ≡ take_in series.now side.now quantity.now }
+fn take_words(words: &[&[u8]]) -> Option<LayerCall>
+    ensures { result ≡ take_words (lent words.now) }
 {
+    let [series, side, quantity] = words else {
+        return None;
+    };
     let series = small_number(series)?;
     let side = side_named(side)?;
     let quantity = small_number(quantity)?;
-    Some(Command::ToLayer(LayerCall::Take {
+    Some(LayerCall::Take {
         series,
         side,
         quantity,
-    }))
+    })
 }
 
-fn take_words(words: &[&[u8]]) -> Option<Command>
-    ensures { result ≡ take_words (lent words.now) }
-{
-    if count(words) != 3 {
-        return None;
-    }
-    take_of(word_at(words, 0), word_at(words, 1), word_at(words, 2))
-}
-
-fn hold_words(words: &[&[u8]]) -> Option<Command>
-    ensures { result ≡ hold_words (lent words.now) }
-{
-    if count(words) != 1 {
-        return None;
-    }
-    let series = small_number(word_at(words, 0))?;
-    Some(Command::ToLayer(LayerCall::Hold(series)))
-}
-
-fn release_words(words: &[&[u8]]) -> Option<Command>
-    ensures { result ≡ release_words (lent words.now) }
-{
-    if count(words) != 1 {
-        return None;
-    }
-    let series = small_number(word_at(words, 0))?;
-    Some(Command::ToLayer(LayerCall::Release(series)))
-}
-
-// A command, unless the words behind its name are not those that it takes.
-fn worded(command: Option<Command>) -> Result<Command, Complaint>
-    ensures { result ≡ worded command }
-{
-    match command {
-        Some(command) => Ok(command),
-        None => Err(Complaint::Misworded),
-    }
-}
-
-// The command that opens a book or calls it.
-fn book_call_in(name: &[u8], words: &[&[u8]]) -> Result<Command, Complaint>
-    ensures { result ≡ book_call_in name.now (lent words.now) }
-{
-    if is(name, "book") {
-        worded(book_words(words))
-    } else if is(name, "quote") {
-        worded(quote_words(words))
-    } else if is(name, "post") {
-        worded(post_words(words))
-    } else if is(name, "withdraw") {
-        worded(withdraw_words(words))
-    } else {
-        Err(Complaint::Unknown)
-    }
-}
-
-// The command of a name: a call through the layer, or one of the others.
-fn named(name: &[u8], words: &[&[u8]]) -> Result<Command, Complaint>
+// The command of a name, or what is wrong with it or with the words behind it.
+fn command_named(name: &[u8], words: &[&[u8]]) -> Result<Command, Complaint>
     ensures { result ≡ layer_call_in name.now (lent words.now) }
 {
-    if is(name, "best") {
-        worded(best_words(words))
-    } else if is(name, "take") {
-        worded(take_words(words))
-    } else if is(name, "hold") {
-        worded(hold_words(words))
-    } else if is(name, "release") {
-        worded(release_words(words))
-    } else {
-        book_call_in(name, words)
-    }
+    let command = match name {
+        b"best" => best_words(words).map(Command::ToLayer),
+        b"take" => take_words(words).map(Command::ToLayer),
+        b"hold" => number_words(words).map(|series| Command::ToLayer(LayerCall::Hold(series))),
+        b"release" => number_words(words).map(|series| Command::ToLayer(LayerCall::Release(series))),
+        b"book" => book_words(words).map(Command::Open),
+        b"quote" => entry_words(words).map(|entry| Command::ToBook(BookCall::Quote(entry))),
+        b"post" => entry_words(words).map(|entry| Command::ToBook(BookCall::Post(entry))),
+        b"withdraw" => number_words(words).map(|lot| Command::ToBook(BookCall::Withdraw(lot))),
+        _ => return Err(Complaint::Unknown),
+    };
+    command.ok_or(Complaint::Misworded)
 }
 
 // The command that a line says, or what is wrong with the line.
 pub(crate) fn command_in(words: &[&[u8]]) -> Result<Command, Complaint>
     ensures { result ≡ command_in (lent words.now) }
 {
-    named(word_at(words, 0), words_from(words, 1))
+    match words {
+        [] => Err(Complaint::Unknown),
+        [name, words @ ..] => command_named(name, words),
+    }
 }

@@ -34,9 +34,9 @@ impl<'a> SessionBook for DepthBook<'a> {
             BookCall::Post(entry) => posted_answer(self.post(
                 entry.series,
                 entry.side,
-                entry.customer,
-                entry.price,
-                entry.size,
+                entry.lot.customer,
+                entry.lot.price,
+                entry.lot.size,
             )),
             BookCall::Withdraw(lot) => done_answer(self.withdraw(lot)),
         }

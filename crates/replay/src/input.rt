@@ -27,10 +27,7 @@ impl Input {
 
     // What the next line says that is not passed over.
     pub(crate) fn next(&mut self, heap: Global) -> anyhow::Result<Option<Said>> {
-        for _ in 0..u64::MAX {
-            let Some(line) = self.lines.next() else {
-                break;
-            };
+        for line in self.lines.by_ref() {
             let line = line?;
             self.number = self.number.saturating_add(1);
             let words = words(heap, line.as_slice())?;

@@ -24,6 +24,7 @@ use holds::HoldLayer;
 
 // The lines before the first session; answers the kind of its book.
 fn unopened(rt: &HostRuntime, input: &mut Input) -> anyhow::Result<Option<Kind>> {
+    // a count bounds the loop, since a `for` over the input would hold what prints the answers
     for _ in 0..u64::MAX {
         let Some(said) = input.next(rt.alloc())? else {
             break;
@@ -43,6 +44,7 @@ fn session<B: SessionBook + Drop>(
     book: B,
 ) -> anyhow::Result<Option<Kind>> {
     let mut layer = HoldLayer::new(book);
+    // a count bounds the loop, since a `for` over the input would hold what prints the answers
     for _ in 0..u64::MAX {
         let Some(said) = input.next(rt.alloc())? else {
             break;
@@ -67,6 +69,7 @@ fn depth_session(rt: &HostRuntime, input: &mut Input) -> anyhow::Result<Option<K
 fn main(rt: HostRuntime) -> anyhow::Result<()> {
     let mut input = Input::new(&rt)?;
     let mut next = unopened(&rt, &mut input)?;
+    // a count bounds the loop, since a `while let` needs a measure, and no clause counts the lines that a session reads
     for _ in 0..u64::MAX {
         let Some(kind) = next else {
             break;
