@@ -24,12 +24,12 @@ price_within b law s d x e = go (best_of (b s d)) (best_told b law s d) e
     go None t e = none_some x (sym e)
     go (Some y) t e = let same : x ≡ y = cc in rw same t.most
 
-pub leg_sounds : (m : LegMarket) → is_open m ≡ true → 1 ≤ m.ratio → m.ratio ≤ 8 → m.offer ≤ 1000000 → leg_sound m ≡ true
+pub leg_sounds : (m : LegMarket) → is_open m ≡ true → 1 ≤ m.ratio → m.ratio ≤ 8 → m.offer.price ≤ 1000000 → leg_sound m ≡ true
 leg_sounds m e some most high =
-    and_from (is_open m) ((leb 1 m.ratio && leb m.ratio 8) && leb m.offer 1000000) e
-    (and_from (leb 1 m.ratio && leb m.ratio 8) (leb m.offer 1000000)
+    and_from (is_open m) ((leb 1 m.ratio && leb m.ratio 8) && leb m.offer.price 1000000) e
+    (and_from (leb 1 m.ratio && leb m.ratio 8) (leb m.offer.price 1000000)
     (and_from (leb 1 m.ratio) (leb m.ratio 8) (le-leb 1 m.ratio some) (le-leb m.ratio 8 most))
-    (le-leb m.offer 1000000 high))
+    (le-leb m.offer.price 1000000 high))
 
 abbrev pub prefixed : {X : Type 0} → List X → Option (List X) → Option (List X)
 prefixed xs None = None
