@@ -46,7 +46,7 @@ impl LegMarket {
         ensures high { result ≤ℤ pos 8000000 }
         ensures low { neg_ℤ (pos 8000000) ≤ℤ result }
     {
-        let value = (self.ratio * self.taken(buy).price) as i64;
+        let value = i64::from(self.ratio * self.taken(buy).price);
         if self.bought { value } else { -value }
     }
 

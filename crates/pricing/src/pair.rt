@@ -23,9 +23,9 @@ fn nth_price(buy_is_older: bool, low: i64, high: i64, step: u32) -> i64
     ensures to_high { result ≤ℤ high }
 {
     if buy_is_older {
-        high - step as i64
+        high - i64::from(step)
     } else {
-        low + step as i64
+        low + i64::from(step)
     }
 }
 
