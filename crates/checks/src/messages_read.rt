@@ -12,10 +12,10 @@ fn limit(head: u8, bits: [u8; 5]) -> Option<i64> {
     match read(&placing(head, bits)) {
         Ok(
             Received {
-                message: Message::Place { limit, .. },
+                message: Message::Place(order),
                 ..
             },
-        ) => Some(limit),
+        ) => Some(order.limit),
         _ => None,
     }
 }
@@ -24,7 +24,7 @@ fn limit(head: u8, bits: [u8; 5]) -> Option<i64> {
 fn fault(bytes: &[u8]) -> (u32, u32) {
     match read(bytes) {
         Ok(_) => (0, 0),
-        Err(fault) => (fault.number, fault.bit),
+        Err(fault) => (fault.number(), fault.bit),
     }
 }
 

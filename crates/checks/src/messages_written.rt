@@ -1,17 +1,17 @@
 // The writer of messages, on examples.
-use contents::{LegFields, LegSide, Message, OrderSide};
+use contents::{DefineFields, LegFields, LegSide, Message, OrderSide, PlaceFields};
 use messages::write;
 
 // A day order to buy, or one whose values are too great.
 fn placing(strategy: u64, time_in_force: u64, limit: i64, quantity: u64) -> Message {
-    Message::Place {
+    Message::Place(PlaceFields {
         strategy,
         side: OrderSide::Buy,
         market: false,
         time_in_force,
         limit,
         quantity,
-    }
+    })
 }
 
 // Whether a message is written, and the room afterwards.
@@ -68,20 +68,20 @@ fn a_leg_beyond_the_count_is_refused(rt: HostRuntime) {
         side: LegSide::Sold,
         ratio: 0,
     };
-    let (is_written, _) = written(&Message::Define {
+    let (is_written, _) = written(&Message::Define(DefineFields {
         count: 2,
         legs: [none, sold, none, none],
-    });
+    }));
     assert!(rt; is_written);
-    let (is_written, _) = written(&Message::Define {
+    let (is_written, _) = written(&Message::Define(DefineFields {
         count: 1,
         legs: [none, sold, none, none],
-    });
+    }));
     assert!(rt; !is_written);
-    let (is_written, _) = written(&Message::Define {
+    let (is_written, _) = written(&Message::Define(DefineFields {
         count: 16,
         legs: [none; 4],
-    });
+    }));
     assert!(rt; !is_written);
     let mut short = [0u8; 13];
     assert!(rt; write(&Message::Cancel { number: 1 }, &mut short).is_err());

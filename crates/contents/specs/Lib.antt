@@ -1,2 +1,4 @@
+pub mod Editions
 pub mod Faults
+pub mod Sides
 pub mod Times

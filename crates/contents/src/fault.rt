@@ -1,49 +1,67 @@
 // Why bytes are no message, and why a message cannot be written.
 ghost use Rattle.std.specs.Prelude.{◌≡◌};
-ghost use Rattle.contents.specs.Faults.{reader_refusal, writer_refusal};
+ghost use Rattle.refusals.specs.Reasons.{number_of};
+ghost use Rattle.refusals.specs.declared.reason.Reason.TheVariants.{Unwritable};
+ghost use Rattle.contents.specs.Faults.{reader_fault, reader_refusal, writer_refusal};
 
 use refusals::{Reason, Refusal, Station};
 
-// Why bytes are no message: a number of the refusal table and, where it is a field's, the bit place (else 0).
+// Why bytes are no message: the reason and, where it is a field's, the bit place (else 0).
 #[derive(Clone, Copy, PartialEq, Eq, Debug)]
 pub struct ReaderFault {
-    pub number: u32,
+    pub reason: Reason,
     pub bit: u32,
 }
 
-// Why a message was not written: a number of the refusal table.
+// A message was not written; there is one reason for it.
 #[derive(Clone, Copy, PartialEq, Eq, Debug)]
-pub struct WriterFault {
-    pub number: u32,
-}
+pub struct WriterFault;
 
 impl ReaderFault {
-    // The whole refusal, at the station of the reader.
-    pub fn refusal(&self) -> Refusal
-        ensures { result ≡ reader_refusal self.now }
+    // The number in the refusal table.
+    pub fn number(&self) -> u32
+        ensures { result ≡ number_of self.now.reason }
     {
-        let reason = if self.number == Reason::Length.number() {
-            Reason::Length
-        } else if self.number == Reason::Edition.number() {
-            Reason::Edition
-        } else if self.number == Reason::Kind.number() {
-            Reason::Kind
-        } else {
-            Reason::Field
-        };
-        Refusal {
-            station: Station::Reader,
-            reason,
-            bit: self.bit,
-        }
+        self.reason.number()
     }
 }
 
 impl WriterFault {
-    // The whole refusal, at the station of the writer.
-    pub fn refusal(&self) -> Refusal
-        ensures { result ≡ writer_refusal }
+    // The number in the refusal table.
+    pub fn number(&self) -> u32
+        ensures { result ≡ number_of Unwritable }
     {
+        Reason::Unwritable.number()
+    }
+}
+
+// A reason that names no bit.
+impl From<Reason> for ReaderFault {
+    ghost from_gives = { λ why fault. fault ≡ reader_fault why 0 };
+
+    fn from(reason: Reason) -> ReaderFault {
+        ReaderFault { reason, bit: 0 }
+    }
+}
+
+// The whole refusal, at the station of the reader.
+impl From<ReaderFault> for Refusal {
+    ghost from_gives = { λ fault refusal. refusal ≡ reader_refusal fault };
+
+    fn from(fault: ReaderFault) -> Refusal {
+        Refusal {
+            station: Station::Reader,
+            reason: fault.reason,
+            bit: fault.bit,
+        }
+    }
+}
+
+// The whole refusal, at the station of the writer.
+impl From<WriterFault> for Refusal {
+    ghost from_gives = { λ _ refusal. refusal ≡ writer_refusal };
+
+    fn from(_fault: WriterFault) -> Refusal {
         Refusal::at(Station::Writer, Reason::Unwritable)
     }
 }

@@ -1,6 +1,19 @@
 // What a message says.
 
+use crate::edition::Edition;
 use crate::sides::{LegSide, OrderSide};
+
+// An order, in numbers wider than their fields, so that one that does not fit can be refused.
+#[derive(Clone, Copy)]
+pub struct PlaceFields {
+    pub strategy: u64,
+    pub side: OrderSide,
+    pub market: bool,
+    // a code, since a message may have one that no time has, and is then refused
+    pub time_in_force: u64,
+    pub limit: i64,
+    pub quantity: u64,
+}
 
 // A leg of a definition, in numbers wider than their fields.
 #[derive(Clone, Copy)]
@@ -10,32 +23,25 @@ pub struct LegFields {
     pub ratio: u64,
 }
 
-// A message by its kind. Its numbers are wider than their fields, so that one that does not fit can be refused.
+// A definition: its leg count, which may be any number, and four legs, counted or not.
+#[derive(Clone, Copy)]
+pub struct DefineFields {
+    pub count: u64,
+    pub legs: [LegFields; 4],
+}
+
+// A message by its kind.
 #[derive(Clone, Copy)]
 pub enum Message {
-    Place {
-        strategy: u64,
-        side: OrderSide,
-        market: bool,
-        time_in_force: u64,
-        limit: i64,
-        quantity: u64,
-    },
-    Cancel {
-        number: u64,
-    },
-    Evaluate {
-        strategy: u64,
-    },
-    Define {
-        count: u64,
-        legs: [LegFields; 4],
-    },
+    Place(PlaceFields),
+    Cancel { number: u64 },
+    Evaluate { strategy: u64 },
+    Define(DefineFields),
 }
 
 // A message that was read, and the edition that it came in.
 #[derive(Clone, Copy)]
 pub struct Received {
-    pub edition: u64,
+    pub edition: Edition,
     pub message: Message,
 }

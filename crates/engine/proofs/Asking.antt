@@ -3,6 +3,7 @@ use Rattle.std.proofs.Common.{◌≡◌, ℕ, ◌^◌, ◌<◌, true, false, not
 use Rattle.refusals.specs.declared.reason.Reason.TheVariants.{Memory, SameLegs, TableFull, Strategy, Quantity, Limit, BookFull, NumbersSpent}
 use Rattle.refusals.specs.declared.station.Station.TheVariants.{Opening, Define, Place}
 use Rattle.refusals.specs.Refusals.{refused_at}
+use Rattle.contents.specs.declared.edition.Edition.{Edition}
 use Rattle.contents.specs.declared.fault.ReaderFault.{ReaderFault}
 use Rattle.contents.specs.declared.message.Received.{Received}
 use Rattle.simple.specs.Lots.{Lots}
@@ -43,13 +44,13 @@ four_said ls a b c d long ea eb ec ed =
 leg_narrow : (bytes : List ℕ) (at : ℕ) (l : LegFields) → LegWritten bytes at l → NarrowLeg l
 leg_narrow bytes at l w = (subst (λ n. n < 2 ^ 32) (sym w.0) (field_below bytes at 10 32 (omega arith)), subst (λ n. n < 2 ^ 32) (sym w.2) (field_below bytes _ 4 32 (omega arith)))
 
-pub narrow : (bytes : List ℕ) (edition : ℕ) (m : Message) → Written bytes edition m → Narrow m
-narrow bytes edition (message.Place s d m t l q) w = (subst (λ n. n < 2 ^ 32) (sym w.1) (field_below bytes 8 8 32 (omega arith)), subst (λ n. n < 2 ^ 32) (sym w.6) (field_below bytes 52 16 32 (omega arith)))
+pub narrow : (bytes : List ℕ) (edition : Edition) (m : Message) → Written bytes edition m → Narrow m
+narrow bytes edition (message.Place o) w = (subst (λ n. n < 2 ^ 32) (sym w.1) (field_below bytes 8 8 32 (omega arith)), subst (λ n. n < 2 ^ 32) (sym w.6) (field_below bytes 52 16 32 (omega arith)))
 narrow bytes edition (message.Cancel n) w = subst (λ n. n < 2 ^ 32) (sym w.1) (field_below bytes 68 32 32 (omega arith))
 narrow bytes edition (message.Evaluate s) w = subst (λ n. n < 2 ^ 32) (sym w.1) (field_below bytes 8 8 32 (omega arith))
-narrow bytes edition (message.Define c legs) w = (
+narrow bytes edition (message.Define d) w = (
   subst (λ n. n < 2 ^ 32) (sym w.1) (field_below bytes 8 4 32 (omega arith)),
-  (w.2, leg_narrow bytes 12 (leg legs 0) w.3, leg_narrow bytes 27 (leg legs 1) w.4, leg_narrow bytes 42 (leg legs 2) w.5, leg_narrow bytes 57 (leg legs 3) w.6),
+  (w.2, leg_narrow bytes 12 (leg d.legs 0) w.3, leg_narrow bytes 27 (leg d.legs 1) w.4, leg_narrow bytes 42 (leg d.legs 2) w.5, leg_narrow bytes 57 (leg d.legs 3) w.6),
 )
 
 -- on other memory every call is refused

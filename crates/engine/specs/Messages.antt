@@ -2,6 +2,7 @@
 use Rattle.std.specs.Prelude.{◌≡◌, ◌^◌, ◌<◌, List, length, Ok, Err, Result}
 use Rattle.refusals.specs.declared.refusal.Refusal.{Refusal}
 use Rattle.contents.specs.declared.message.LegFields.{LegFields}
+use Rattle.contents.specs.declared.message.PlaceFields.{PlaceFields}
 use Rattle.contents.specs.declared.message.Message.{Message}
 use Rattle.contents.specs.declared.message.Message.TheVariants.{Place, Cancel, Evaluate, Define}
 use Rattle.messages.specs.Writing.{leg}
@@ -15,11 +16,14 @@ NarrowLeg l = (l.series < 2 ^ 32) × (l.ratio < 2 ^ 32)
 abbrev pub NarrowLegs : List LegFields → Type 0
 NarrowLegs ls = (length ls ≡ 4) × NarrowLeg (leg ls 0) × NarrowLeg (leg ls 1) × NarrowLeg (leg ls 2) × NarrowLeg (leg ls 3)
 
+abbrev pub NarrowOrder : PlaceFields → Type 0
+NarrowOrder o = (o.strategy < 2 ^ 32) × (o.quantity < 2 ^ 32)
+
 abbrev pub Narrow : Message → Type 0
-Narrow (Place strategy side market time limit quantity) = (strategy < 2 ^ 32) × (quantity < 2 ^ 32)
+Narrow (Place order) = NarrowOrder order
 Narrow (Cancel number) = number < 2 ^ 32
 Narrow (Evaluate strategy) = strategy < 2 ^ 32
-Narrow (Define count legs) = (count < 2 ^ 32) × NarrowLegs legs
+Narrow (Define row) = (row.count < 2 ^ 32) × NarrowLegs row.legs
 
 -- what the call answered that a message asked for
 abbrev pub answer_asked : Result Intake Refusal → Answer

@@ -1,21 +1,33 @@
 // Messages taken in: each is read, and the call that it asks for is made.
 ghost use Rattle.std.specs.Prelude.{◌≡◌, ℕ, ◌^◌, ◌<◌, map, length, take};
-ghost use Rattle.std.specs.Option.{unwrap_or};
-ghost use Rattle.contents.specs.Times.{time_coded};
-ghost use Rattle.contents.specs.declared.time.TimeInForce.TheVariants.{Day};
-ghost use Rattle.rules.specs.Events.{leg_said, call_said, call_of, answer_intake, records_told, event, written_over};
+ghost use Rattle.rules.specs.Events.{order_said, leg_said, call_said, call_of, answer_intake, records_told, event, written_over};
 ghost use Rattle.rules.specs.Runs.{Happens};
 ghost use Rattle.rules.specs.Laws.{Always};
 ghost use Rattle.engine.specs.Model.{model};
-ghost use Rattle.engine.specs.Messages.{NarrowLeg, NarrowLegs, Narrow, answer_asked};
+ghost use Rattle.engine.specs.Messages.{NarrowOrder, NarrowLeg, NarrowLegs, Narrow, answer_asked};
 
 use crate::held::Engine;
-use contents::{LegFields, LegSide, Message, OrderSide, TimeInForce};
+use contents::{LegFields, LegSide, Message, PlaceFields, TimeInForce};
 use messages::read;
 use refusals::{Reason, Refusal, Station};
 use rules::{Execution, Intake, IntakeFault, NewOrder};
 use simple::SimpleBook;
 use strategies::Leg;
+
+// The order that the fields of a message say; the reader lets no time in force through that has no code.
+fn order_of(fields: PlaceFields) -> NewOrder
+    requires { NarrowOrder fields }
+    ensures { result ≡ order_said fields }
+{
+    NewOrder {
+        strategy: fields.strategy as u32,
+        side: fields.side,
+        market: fields.market,
+        limit: fields.limit,
+        time_in_force: TimeInForce::try_from(fields.time_in_force).unwrap_or(TimeInForce::Day),
+        quantity: fields.quantity as u32,
+    }
+}
 
 // The leg that the fields of a message say.
 fn leg_of(fields: LegFields) -> Leg
@@ -59,22 +71,8 @@ impl Engine<'_> {
         ensures frame { B.SimpleBook.frame book.new ≡ B.SimpleBook.frame book.old }
     {
         match message {
-            Message::Place {
-                strategy,
-                side,
-                market,
-                time_in_force,
-                limit,
-                quantity,
-            } => {
-                let order = NewOrder {
-                    strategy: strategy as u32,
-                    side,
-                    market,
-                    limit,
-                    time_in_force: TimeInForce::coded(time_in_force).unwrap_or(TimeInForce::Day),
-                    quantity: quantity as u32,
-                };
+            Message::Place(fields) => {
+                let order = order_of(fields);
                 Ok(Intake::Placed(self.do_place(book, executions, order)?))
             }
             Message::Cancel { number } => Ok(Intake::Cancelled(self.do_cancel(number as u32)?)),
@@ -83,8 +81,8 @@ impl Engine<'_> {
                 executions,
                 strategy as u32,
             )?)),
-            Message::Define { count, legs } => {
-                Ok(Intake::Defined(self.do_define(count as u32, &legs_of(legs))?))
+            Message::Define(row) => {
+                Ok(Intake::Defined(self.do_define(row.count as u32, &legs_of(row.legs))?))
             }
         }
     }

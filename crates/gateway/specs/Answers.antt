@@ -6,6 +6,7 @@ use Rattle.contents.specs.declared.fault.WriterFault.{WriterFault}
 use Rattle.contents.specs.declared.message.Message.{Message}
 use Rattle.contents.specs.declared.message.Message.TheVariants.{Place, Cancel, Evaluate, Define}
 use Rattle.contents.specs.declared.message.Received.{Received}
+use Rattle.contents.specs.Editions.{edition_code}
 use Rattle.contents.specs.Faults.{reader_refusal, writer_refusal}
 use Rattle.messages.specs.Reading.{read_of}
 use Rattle.messages.specs.Writing.{write_answer, written}
@@ -25,14 +26,14 @@ abbrev pub limit_warning : ℤ → List ℕ
 limit_warning limit = cond (is_beyond limit) (newline ++ warning_text limit) []
 
 abbrev pub warning_of : Message → List ℕ
-warning_of (Place s d m t l q) = limit_warning l
+warning_of (Place o) = limit_warning o.limit
 warning_of (Cancel n) = []
 warning_of (Evaluate s) = []
-warning_of (Define c ls) = []
+warning_of (Define d) = []
 
 -- what is printed of bytes that were read
 abbrev pub reading_text : Result Received ReaderFault → List ℕ
-reading_text (Ok x) = message_text x.edition x.message ++ warning_of x.message
+reading_text (Ok x) = message_text (edition_code x.edition) x.message ++ warning_of x.message
 reading_text (Err f) = refusal_text (reader_refusal f)
 
 -- what is printed of a message that was written into 14 bytes of zeros
@@ -45,10 +46,10 @@ writing_text (Err f) bytes = refusal_text writer_refusal
 
 -- what is counted of a line
 abbrev pub is_warned : Message → Bool
-is_warned (Place s d m t l q) = is_beyond l
+is_warned (Place o) = is_beyond o.limit
 is_warned (Cancel n) = false
 is_warned (Evaluate s) = false
-is_warned (Define c ls) = false
+is_warned (Define d) = false
 
 abbrev pub reading_outcome : Result Received ReaderFault → Outcome
 reading_outcome (Ok x) = Read (is_warned x.message)

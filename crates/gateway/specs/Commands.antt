@@ -50,7 +50,7 @@ leg_in w = then (parts_at 58 w) (λ p. signed_leg p.0 p.1)
 -- `place` takes a strategy, a side, a limit, a time in force and a quantity
 abbrev pub place_in : List ℕ → List ℕ → List ℕ → List ℕ → List ℕ → Option Message
 place_in strategy side limit time quantity =
-    then (number_in strategy) (λ s. then (side_in side) (λ d. then (limit_in limit) (λ l. then (time_in time) (λ t. then (number_in quantity) (λ q. Some (Place s d l.market t l.limit q))))))
+    then (number_in strategy) (λ s. then (side_in side) (λ d. then (limit_in limit) (λ l. then (time_in time) (λ t. then (number_in quantity) (λ q. Some (Place (record { strategy = s; side = d; market = l.market; time_in_force = t; limit = l.limit; quantity = q })))))))
 
 -- the words behind `place`, `cancel` and `evaluate`
 abbrev pub place_words : List (List ℕ) → Option Message
@@ -69,7 +69,7 @@ leg_word ws i = cond (nat_lt i (length ws)) (leg_in (word ws i)) (Some no_leg)
 abbrev pub define_words : List (List ℕ) → Option Message
 define_words ws =
     cond (nat_le (length ws) 4)
-    (then (leg_word ws 0) (λ a. then (leg_word ws 1) (λ b. then (leg_word ws 2) (λ c. then (leg_word ws 3) (λ d. Some (Define (length ws) (a ∷ b ∷ c ∷ d ∷ [])))))))
+    (then (leg_word ws 0) (λ a. then (leg_word ws 1) (λ b. then (leg_word ws 2) (λ c. then (leg_word ws 3) (λ d. Some (Define (record { count = length ws; legs = a ∷ b ∷ c ∷ d ∷ [] })))))))
     None
 
 -- the message that words say: `write`, its kind, and the words of the kind

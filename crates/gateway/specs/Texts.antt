@@ -37,12 +37,12 @@ abbrev pub leg_text : LegFields → List ℕ
 leg_text l = decimal l.series ++ (codes ":" ++ (sign_text l.side ++ decimal l.ratio))
 
 abbrev pub message_text : ℕ → Message → List ℕ
-message_text e (Place s d m t l q) =
-    codes "place edition " ++ (decimal e ++ (codes " strategy " ++ (decimal s ++ (codes " " ++ (side_text d ++ (codes " " ++ (limit_text m l ++ (codes " " ++ (time_text t ++ (codes " quantity " ++ decimal q))))))))))
+message_text e (Place o) =
+    codes "place edition " ++ (decimal e ++ (codes " strategy " ++ (decimal o.strategy ++ (codes " " ++ (side_text o.side ++ (codes " " ++ (limit_text o.market o.limit ++ (codes " " ++ (time_text o.time_in_force ++ (codes " quantity " ++ decimal o.quantity))))))))))
 message_text e (Cancel n) = codes "cancel edition " ++ (decimal e ++ (codes " number " ++ decimal n))
 message_text e (Evaluate s) = codes "evaluate edition " ++ (decimal e ++ (codes " strategy " ++ decimal s))
-message_text e (Define c ls) =
-    codes "define edition " ++ (decimal e ++ (codes " count " ++ (decimal c ++ (codes " legs " ++ (leg_text (leg ls 0) ++ (codes " " ++ (leg_text (leg ls 1) ++ (codes " " ++ (leg_text (leg ls 2) ++ (codes " " ++ leg_text (leg ls 3)))))))))))
+message_text e (Define d) =
+    codes "define edition " ++ (decimal e ++ (codes " count " ++ (decimal d.count ++ (codes " legs " ++ (leg_text (leg d.legs 0) ++ (codes " " ++ (leg_text (leg d.legs 1) ++ (codes " " ++ (leg_text (leg d.legs 2) ++ (codes " " ++ leg_text (leg d.legs 3)))))))))))
 
 -- a limit beyond this is warned of, with what the same 32 bits say in two's complement
 abbrev pub greatest_limit : ℕ

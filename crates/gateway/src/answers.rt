@@ -32,8 +32,8 @@ fn is_warned(message: &Message) -> bool
     ensures { result ≡ is_warned message.now }
 {
     match *message {
-        Message::Place { limit, .. } => is_beyond(limit),
-        Message::Cancel { .. } | Message::Evaluate { .. } | Message::Define { .. } => false,
+        Message::Place(order) => is_beyond(order.limit),
+        Message::Cancel { .. } | Message::Evaluate { .. } | Message::Define(_) => false,
     }
 }
 
@@ -60,8 +60,8 @@ fn warning_of(heap: Global, message: &Message) -> Result<String, AllocError>
     ensures { IfOk result (λ t. string_bytes t ≡ warning_of message.now) }
 {
     match *message {
-        Message::Place { limit, .. } => limit_warning(heap, limit),
-        Message::Cancel { .. } | Message::Evaluate { .. } | Message::Define { .. } => Ok(
+        Message::Place(order) => limit_warning(heap, order.limit),
+        Message::Cancel { .. } | Message::Evaluate { .. } | Message::Define(_) => Ok(
             String::new(heap),
         ),
     }
@@ -89,7 +89,7 @@ fn reading(heap: Global, bytes: &[u8]) -> Result<Reply, AllocError>
             })
         }
         Err(fault) => {
-            let text = refusal_text(heap, &fault.refusal())?;
+            let text = refusal_text(heap, &fault.into())?;
             Ok(Reply {
                 text,
                 outcome: Outcome::Refused,
@@ -124,7 +124,7 @@ fn writing(heap: Global, message: &Message) -> Result<String, AllocError>
     let mut bytes = [0u8; 14];
     match write(message, &mut bytes) {
         Ok(()) => bytes_text(heap, &bytes),
-        Err(fault) => refusal_text(heap, &fault.refusal()),
+        Err(fault) => refusal_text(heap, &fault.into()),
     }
 }
 

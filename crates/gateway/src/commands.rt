@@ -4,7 +4,7 @@ ghost use Rattle.gateway.specs.Commands.{side_in, limit_in, time_in, leg_of, sig
 ghost use Rattle.numbers.specs.Numbers.{number_in};
 ghost use Rattle.text.specs.Words.{lent};
 
-use contents::{LegFields, LegSide, Message, OrderSide, TimeInForce};
+use contents::{DefineFields, LegFields, LegSide, Message, OrderSide, PlaceFields, TimeInForce};
 use lines::words::{count, is, word_at, words_from};
 use numbers::{number, signed_number};
 use text::words::split_once;
@@ -51,9 +51,9 @@ fn time_named(word: &[u8]) -> Option<u64>
     ensures { result ≡ time_in word.now }
 {
     if is(word, "day") {
-        Some(TimeInForce::Day.code())
+        Some(TimeInForce::Day.into())
     } else if is(word, "ioc") {
-        Some(TimeInForce::ImmediateOrCancel.code())
+        Some(TimeInForce::ImmediateOrCancel.into())
     } else {
         None
     }
@@ -110,14 +110,14 @@ fn placing(
     let Limit { market, limit } = limit_named(limit)?;
     let time_in_force = time_named(time)?;
     let quantity = number(quantity)?;
-    Some(Message::Place {
+    Some(Message::Place(PlaceFields {
         strategy,
         side,
         market,
         time_in_force,
         limit,
         quantity,
-    })
+    }))
 }
 
 // The message that the words behind `place` say, if there are as many as it takes.
@@ -181,10 +181,10 @@ fn define_words(words: &[&[u8]]) -> Option<Message>
     let second = leg_word(words, 1)?;
     let third = leg_word(words, 2)?;
     let fourth = leg_word(words, 3)?;
-    Some(Message::Define {
+    Some(Message::Define(DefineFields {
         count: count(words) as u64,
         legs: [first, second, third, fourth],
-    })
+    }))
 }
 
 // The message of a kind that a word names.

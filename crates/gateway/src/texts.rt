@@ -2,6 +2,7 @@
 ghost use Rattle.std.specs.Prelude.{◌≡◌, ◌++◌, IfOk, string_bytes, codes, decimal};
 ghost use Rattle.std.specs.Fmt.{signed_decimal};
 ghost use Rattle.contents.specs.declared.message.Message.TheVariants.{Place, Cancel, Evaluate, Define};
+ghost use Rattle.contents.specs.Editions.{edition_code};
 ghost use Rattle.gateway.specs.Texts.{side_text, time_text, is_zero, limit_text, sign_text, leg_text, message_text, is_beyond, reread, warning_text};
 
 use contents::{LegFields, LegSide, Message, OrderSide, Received, TimeInForce};
@@ -20,7 +21,7 @@ fn side_text(side: OrderSide) -> &'static str
 fn time_text(code: u64) -> &'static str
     ensures { result.now ≡ time_text code }
 {
-    if code == TimeInForce::Day.code() {
+    if code == u64::from(TimeInForce::Day) {
         "day"
     } else {
         "ioc"
@@ -122,7 +123,7 @@ fn define_text(
     count: u64,
     legs: &[LegFields; 4],
 ) -> Result<String, AllocError>
-    ensures { IfOk result (λ t. string_bytes t ≡ message_text edition (Define count legs.now)) }
+    ensures { IfOk result (λ t. string_bytes t ≡ message_text edition (Define (record { count = count; legs = legs.now }))) }
 {
     let first = leg_text(heap, &legs[0])?;
     let second = leg_text(heap, &legs[1])?;
@@ -140,34 +141,25 @@ fn define_text(
 
 // What a message that was read says under its edition.
 pub(crate) fn message_text(heap: Global, received: &Received) -> Result<String, AllocError>
-    ensures { IfOk result (λ t. string_bytes t ≡ message_text received.now.edition received.now.message) }
+    ensures { IfOk result (λ t. string_bytes t ≡ message_text (edition_code received.now.edition) received.now.message) }
 {
-    let edition = received.edition;
+    let edition = received.edition.into();
     match received.message {
-        Message::Place {
-            strategy,
-            side,
-            market,
-            time_in_force,
-            limit,
-            quantity,
-        } => {
-            let limit = limit_text(heap, market, limit)?;
-            let side = side_text(side);
-            let time = time_text(time_in_force);
+        Message::Place(order) => {
+            let limit = limit_text(heap, order.market, order.limit)?;
             place_text(
                 heap,
                 edition,
-                strategy,
-                side,
+                order.strategy,
+                side_text(order.side),
                 limit.as_str(),
-                time,
-                quantity,
+                time_text(order.time_in_force),
+                order.quantity,
             )
         }
         Message::Cancel { number } => cancel_text(heap, edition, number),
         Message::Evaluate { strategy } => evaluate_text(heap, edition, strategy),
-        Message::Define { count, legs } => define_text(heap, edition, count, &legs),
+        Message::Define(row) => define_text(heap, edition, row.count, &row.legs),
     }
 }
 

@@ -10,9 +10,25 @@ use Rattle.contents.specs.declared.sides.OrderSide.{OrderSide}
 use Rattle.contents.specs.declared.sides.OrderSide.TheVariants.{Buy, Sell}
 use Rattle.contents.specs.declared.sides.LegSide.{LegSide}
 use Rattle.contents.specs.declared.sides.LegSide.TheVariants.{Bought, Sold}
-use Rattle.messages.specs.Codes.{kind_code, kind_coded, order_side_code, order_side_coded, leg_side_code, leg_side_coded, mark_code}
+use Rattle.contents.specs.declared.edition.Edition.{Edition}
+use Rattle.contents.specs.declared.edition.Edition.TheVariants.{Unsigned, Signed}
+use Rattle.contents.specs.Editions.{edition_code, edition_coded}
+use Rattle.contents.specs.Sides.{order_side_code, order_side_coded, leg_side_code, leg_side_coded}
+use Rattle.messages.specs.Codes.{kind_code, kind_coded, mark_code}
 use Rattle.messages.specs.Laws.{TwosComplement}
 use Rattle.messages.specs.Limits.{twos_complement, limit_fits, limit_bits}
+
+pub edition_back : (e : Edition) → edition_coded (edition_code e) ≡ Some e
+edition_back Unsigned = refl
+edition_back Signed = refl
+
+pub edition_bits : (n : ℕ) (e : Edition) → edition_coded n ≡ Some e → edition_code e ≡ n
+edition_bits n e =
+    let Is : Option Edition → Type 0 = λ o. o ≡ Some e → edition_code e ≡ n in
+    let at : (j : Edition) → eqb n (edition_code j) ≡ true → Is (Some j) = λ j h q. let same : e ≡ j = cc in ap edition_code same ∙ sym (eqb-true n (edition_code j) h) in
+    cond_both (eqb n 1) (Some Unsigned) (cond (eqb n 2) (Some Signed) None) Is (at Unsigned)
+    (λ _. cond_both (eqb n 2) (Some Signed) None Is (at Signed)
+    (λ _ q. let z : ◌≡◌ {A = ℕ} 0 1 = cc in absurd (omega arith)))
 
 pub kind_back : (k : Kind) → kind_coded (kind_code k) ≡ Some k
 kind_back Place = refl

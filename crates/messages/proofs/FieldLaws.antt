@@ -53,8 +53,8 @@ front_of_byte bs j (suc w) b h =
     omega (arith, front_of_byte bs j w b (omega arith), bitIs, up)
 
 -- one byte more
-pub field_byte : (bs : List ℕ) (f i : ℕ) → get_or bs i 0 < 256 → f ≤ i → field bs (8 * f) (8 * (i + 1 - f)) ≡ field bs (8 * f) (8 * (i - f)) * 256 + get_or bs i 0
-field_byte bs f i b h =
-    let e : 8 * (i + 1 - f) ≡ 8 * (i - f) + 8 = omega arith in
-    let g : 8 * f + 8 * (i - f) ≡ 8 * i = omega arith in
-    ap (field bs (8 * f)) e ∙ field_add bs (8 * f) (8 * (i - f)) 8 ∙ ap (λ (x : ℕ). field bs (8 * f) (8 * (i - f)) * 256 + x) (ap (λ (x : ℕ). field bs x 8) g ∙ front_of_byte bs i 8 b (omega arith) ∙ omega arith)
+pub field_byte : (bs : List ℕ) (f k : ℕ) → get_or bs (f + k) 0 < 256 → field bs (8 * f) (8 * (k + 1)) ≡ field bs (8 * f) (8 * k) * 256 + get_or bs (f + k) 0
+field_byte bs f k b =
+    let e : 8 * (k + 1) ≡ 8 * k + 8 = omega arith in
+    let g : 8 * f + 8 * k ≡ 8 * (f + k) = omega arith in
+    ap (field bs (8 * f)) e ∙ field_add bs (8 * f) (8 * k) 8 ∙ ap (λ (x : ℕ). field bs (8 * f) (8 * k) * 256 + x) (ap (λ (x : ℕ). field bs x 8) g ∙ front_of_byte bs (f + k) 8 b (omega arith) ∙ omega arith)

@@ -1,9 +1,10 @@
 -- What fits, leg by leg.
 use Rattle.std.proofs.Common.{◌≡◌, ℕ, ◌^◌, ◌<◌, ◌≤◌, Bool, true, false, cond, ◌&&◌, ltb, leb, List, [], ◌∷◌, ◌++◌, replicate, sym, refl, ap, ◌∙◌, arith}
 use Rattle.std.proofs.lemmas.Bool.{and_parts, leb-true, cond_both}
+use Rattle.contents.specs.declared.message.DefineFields.{DefineFields}
 use Rattle.contents.specs.declared.message.LegFields.{LegFields}
 use Rattle.contents.specs.declared.message.Message.TheVariants.{Define}
-use Rattle.messages.specs.Codes.{leg_side_code}
+use Rattle.contents.specs.Sides.{leg_side_code}
 use Rattle.messages.specs.Layout.{Field, all_ones, leg_layout, unused_bits}
 use Rattle.messages.specs.Writing.{all_within, leg_values, leg, fits}
 
@@ -23,9 +24,11 @@ and_true true = refl
 and_true false = refl
 
 -- a definition fits if its count does and each leg
-pub define_fits : (n : ℕ) (ls : List LegFields) → fits (Define n ls) ≡ (leb n 15 && (all_within (leg_layout (ltb 0 n) 0) (leg_values (leg ls 0)) && (all_within (leg_layout (ltb 1 n) 0) (leg_values (leg ls 1)) && (all_within (leg_layout (ltb 2 n) 0) (leg_values (leg ls 2)) && all_within (leg_layout (ltb 3 n) 0) (leg_values (leg ls 3))))))
+pub define_fits : (d : DefineFields) → let n = d.count in let ls = d.legs in fits (Define d) ≡ (leb n 15 && (all_within (leg_layout (ltb 0 n) 0) (leg_values (leg ls 0)) && (all_within (leg_layout (ltb 1 n) 0) (leg_values (leg ls 1)) && (all_within (leg_layout (ltb 2 n) 0) (leg_values (leg ls 2)) && all_within (leg_layout (ltb 3 n) 0) (leg_values (leg ls 3))))))
 unfolding unused_bits
-define_fits n ls =
+define_fits d =
+    let n = d.count in
+    let ls = d.legs in
     let w : ℕ → Bool = λ i. all_within (leg_layout (ltb i n) 0) (leg_values (leg ls i)) in
     let four = leg_then (ltb 3 n) 57 (leg ls 3) (unused_bits 72 40) (replicate 40 0) ∙ and_true (w 3) in
     let f4 : List Field = leg_layout (ltb 3 n) 57 ++ unused_bits 72 40 in
@@ -62,10 +65,12 @@ leg_narrow b l h =
     let p = bounded (leg_layout b 0) (leg_values l) h in
     (omega (arith, p.0, cond_le b (all_ones 10)), omega (arith, p.1.1.0, cond_le b (all_ones 4)))
 
-pub define_narrow : (n : ℕ) (ls : List LegFields) → fits (Define n ls) ≡ true → (n < 2 ^ 4) × Narrow (leg ls 0) × Narrow (leg ls 1) × Narrow (leg ls 2) × Narrow (leg ls 3)
-define_narrow n ls h =
+pub define_narrow : (d : DefineFields) → fits (Define d) ≡ true → let n = d.count in let ls = d.legs in (n < 2 ^ 4) × Narrow (leg ls 0) × Narrow (leg ls 1) × Narrow (leg ls 2) × Narrow (leg ls 3)
+define_narrow d h =
+    let n = d.count in
+    let ls = d.legs in
     let w : ℕ → Bool = λ i. all_within (leg_layout (ltb i n) 0) (leg_values (leg ls i)) in
-    let p = and_parts (leb n 15) (w 0 && (w 1 && (w 2 && w 3))) (sym (define_fits n ls) ∙ h) in
+    let p = and_parts (leb n 15) (w 0 && (w 1 && (w 2 && w 3))) (sym (define_fits d) ∙ h) in
     let p0 = and_parts (w 0) (w 1 && (w 2 && w 3)) p.1 in
     let p1 = and_parts (w 1) (w 2 && w 3) p0.1 in
     let p2 = and_parts (w 2) (w 3) p1.1 in

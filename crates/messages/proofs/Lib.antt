@@ -1,5 +1,6 @@
 pub mod FieldLaws
 pub mod Offences
+pub mod Passing
 pub mod Fitting
 pub mod Imaging
 pub mod Bytes

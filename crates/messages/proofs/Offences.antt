@@ -1,5 +1,5 @@
 -- The first offence among fields.
-use Rattle.std.proofs.Common.{◌≡◌, ℕ, zero, suc, ◌+◌, ◌-◌, ◌*◌, ◌^◌, ◌<◌, ◌≤◌, List, [], ◌∷◌, ◌++◌, Some, None, Option, sym, refl, ap, ◌∙◌, add-one, one-add, arith, pow_pos}
+use Rattle.std.proofs.Common.{◌≡◌, ℕ, zero, suc, ◌+◌, ◌*◌, ◌^◌, ◌<◌, ◌≤◌, List, [], ◌∷◌, ◌++◌, Some, None, Option, sym, refl, ap, ◌∙◌, add-one, one-add, arith, pow_pos}
 use Rattle.std.proofs.lemmas.Bool.{cond-false, le-ltb}
 use Rattle.messages.specs.Bits.{field}
 use Rattle.messages.specs.Layout.{Field, up_to, unused_bits}
@@ -25,27 +25,10 @@ pub first_none : (a : Option ℕ) → first a None ≡ a
 first_none (Some p) = refl
 first_none None = refl
 
--- a field that is noted comes before those that are still to be read
-pub noted : {bs' : List ℕ} {f' : Field} (bs : List ℕ) (f : Field) (fs : List Field) (o o' : Option ℕ) → bs' ≡ bs → f' ≡ f → o' ≡ first o (offence_of bs' f') → first o' (first_offence bs fs) ≡ first o (first_offence bs (f ∷ fs))
-noted {f' = f'} bs f fs o o' same is n =
-    ap (λ (x : Option ℕ). first x (first_offence bs fs)) n
-    ∙ ap (λ (b : List ℕ). first (first o (offence_of b f')) (first_offence bs fs)) same
-    ∙ ap (λ (x : Field). first (first o (offence_of bs x)) (first_offence bs fs)) is
-    ∙ first_assoc o (offence_of bs f) (first_offence bs fs)
-
 -- fields behind fields
 pub first_offence_++ : (bs : List ℕ) (xs ys : List Field) → first_offence bs (xs ++ ys) ≡ first (first_offence bs xs) (first_offence bs ys)
 first_offence_++ bs [] ys = refl
 first_offence_++ bs (f ∷ xs) ys = ap (first (offence_of bs f)) (first_offence_++ bs xs ys) ∙ sym (first_assoc (offence_of bs f) (first_offence bs xs) (first_offence bs ys))
-
--- the same of several fields
-pub all_noted : {bs' : List ℕ} {xs' : List Field} (bs : List ℕ) (xs ys : List Field) (o o' : Option ℕ) → bs' ≡ bs → xs' ≡ xs → o' ≡ first o (first_offence bs' xs') → first o' (first_offence bs ys) ≡ first o (first_offence bs (xs ++ ys))
-all_noted {xs' = xs'} bs xs ys o o' same is n =
-    ap (λ (x : Option ℕ). first x (first_offence bs ys)) n
-    ∙ ap (λ (b : List ℕ). first (first o (first_offence b xs')) (first_offence bs ys)) same
-    ∙ ap (λ (x : List Field). first (first o (first_offence bs x)) (first_offence bs ys)) is
-    ∙ first_assoc o (first_offence bs xs) (first_offence bs ys)
-    ∙ ap (first o) (sym (first_offence_++ bs xs ys))
 
 -- unused bits whose number is 0 do not offend
 pub unused_none : (bs : List ℕ) (p w : ℕ) → field bs p w ≡ 0 → first_offence bs (unused_bits p w) ≡ None
@@ -58,16 +41,3 @@ unused_none bs p (suc w) h =
     let here = no_offence bs (up_to p 1 0) low in
     let later = unused_none bs (suc p) w (ap (λ (x : ℕ). field bs x w) (sym (add-one p)) ∙ parts.1) in
     ap (λ (o : Option ℕ). first o (first_offence bs (unused_bits (suc p) w))) here ∙ later
-
--- one unused bit more
-pub unused_more : (bs : List ℕ) (p w i : ℕ) → i < w → first_offence bs (unused_bits (p + i) (w - i)) ≡ first (offence_of bs (up_to (p + i) 1 0)) (first_offence bs (unused_bits (p + (i + 1)) (w - (i + 1))))
-unfolding unused_bits
-unused_more bs p w i h =
-    let e : w - i ≡ suc (w - (i + 1)) = omega arith in
-    let f : suc (p + i) ≡ p + (i + 1) = omega arith in
-    ap (λ (n : ℕ). first_offence bs (unused_bits (p + i) n)) e ∙ ap (λ (n : ℕ). first (offence_of bs (up_to (p + i) 1 0)) (first_offence bs (unused_bits n (w - (i + 1))))) f
-
--- none is left
-pub unused_all : (bs : List ℕ) (p w i : ℕ) → w ≤ i → first_offence bs (unused_bits p (w - i)) ≡ None
-unfolding unused_bits
-unused_all bs p w i h = let e : w - i ≡ 0 = omega arith in ap (λ (n : ℕ). first_offence bs (unused_bits p n)) e

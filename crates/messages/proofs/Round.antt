@@ -1,17 +1,21 @@
 -- Both round trips, and what bytes that are read say.
-use Rattle.std.proofs.Common.{◌≡◌, ℕ, ◌+◌, ◌*◌, ◌^◌, ◌<◌, true, eqb, List, ◌∷◌, ◌++◌, length, get_or, drop, is_ok, Ok, Err, Result, sym, refl, ap, ◌∙◌, subst, inl, inr, ⊎_elim, arith}
-use Rattle.std.proofs.lemmas.Bool.{and_from, and_parts, or_cases, or_left, or_right, eqb-true, eq-eqb, cond-true}
+use Rattle.std.proofs.Common.{◌≡◌, ℕ, ◌+◌, ◌*◌, ◌^◌, ◌<◌, ◌⊎◌, true, eqb, List, ◌∷◌, ◌++◌, length, get_or, drop, is_ok, Ok, Err, Result, sym, refl, ap, ◌∙◌, subst, inl, inr, ⊎_elim, arith}
+use Rattle.std.proofs.lemmas.Bool.{and_from, and_parts, eq-eqb, cond-true}
 use Rattle.messages.specs.declared.codes.Kind.{Kind}
 use Rattle.messages.specs.declared.codes.Kind.TheVariants as kind
+use Rattle.contents.specs.declared.edition.Edition.{Edition}
+use Rattle.contents.specs.declared.edition.Edition.TheVariants.{Unsigned, Signed}
+use Rattle.contents.specs.Editions.{edition_code}
 use Rattle.contents.specs.declared.fault.ReaderFault.{ReaderFault}
 use Rattle.contents.specs.declared.message.Message.{Message}
 use Rattle.contents.specs.declared.message.Received.{Received}
 use Rattle.messages.specs.Bits.{field, bytes_of}
-use Rattle.messages.specs.Codes.{kind_code, leg_side_code, leg_side_coded}
-use Rattle.messages.specs.Laws.{Within, Lawful, Accepted, TwosComplement, LimitWritten, Written, Said, ReadBack, WrittenBack}
+use Rattle.contents.specs.Sides.{leg_side_code, leg_side_coded}
+use Rattle.messages.specs.Codes.{kind_code}
+use Rattle.messages.specs.Laws.{Within, Lawful, Accepted, LimitWritten, Written, Said, ReadBack, WrittenBack}
 use Rattle.messages.specs.Layout.{Field, head_layout, layout}
 use Rattle.messages.specs.Limits.{limit_in}
-use Rattle.messages.specs.Reading.{first_offence, leg_count, said, received, known_edition, read_of}
+use Rattle.messages.specs.Reading.{first_offence, leg_count, said, received, read_of}
 use Rattle.messages.specs.Writing.{kind_of, count_of, FourLegged, values_of, limit_ok, all_within, fits, image, image_of, writable, write_answer, written}
 use Rattle.messages.proofs.Bytes.{length_bytes_of, bytes_whole}
 use Rattle.messages.proofs.Coding.{order_side_bits, leg_side_bits, mark_bits, twos_written}
@@ -42,41 +46,43 @@ back m legs fit =
     let body : values bs (layout k (count_of m)) ≡ values_of m = ap (λ (xs : List ℕ). drop 2 xs) all in
     let within = all_to_within bs (layout k (count_of m)) (subst (λ (xs : List ℕ). all_within (layout k (count_of m)) xs ≡ true) (sym body) p.1) in
     let none = ap (first_offence bs) (count_back bs m body) ∙ within_none bs (layout k (count_of m)) within in
-    let known = ap known_edition two in
-    reads bs (length_bytes_of 14 (image_of m)) known k (sym coded) none
-    ∙ ap (λ (e : ℕ). Ok (received e (said k e bs))) two
-    ∙ ap (λ (x : Message). Ok (received 2 x)) (said_back bs m legs p.0 body)
+    reads bs (length_bytes_of 14 (image_of m)) Signed (sym two) k (sym coded) none ∙ ap (λ (x : Message). Ok (received Signed x)) (said_back bs m legs p.0 body)
 
 -- a message that was read in edition 2 is written back
 module _ (bs : List ℕ) (small : (i : ℕ) → get_or bs i 0 < 256) where
-  again_said : (k : Kind) → length bs ≡ 14 → field bs 0 4 ≡ 2 → kind_code k ≡ field bs 4 4 → Within bs (layout k (leg_count bs)) → (fits (said k 2 bs) ≡ true) × (bytes_of 14 (image_of (said k 2 bs)) ≡ bs)
+  again_said : (k : Kind) → length bs ≡ 14 → field bs 0 4 ≡ 2 → kind_code k ≡ field bs 4 4 → Within bs (layout k (leg_count bs)) → (fits (said k Signed bs) ≡ true) × (bytes_of 14 (image_of (said k Signed bs)) ≡ bs)
   again_said k long two coded w =
-      let m = said k 2 bs in
+      let m = said k Signed bs in
       let fs : List Field = head_layout ++ layout k (leg_count bs) in
-      let same = layout_said k 2 bs in
+      let same = layout_said k Signed bs in
       let vals = values_said k bs w in
       let inside : all_within (layout (kind_of m) (count_of m)) (values_of m) ≡ true =
       ap (λ (l : List Field). all_within l (values_of m)) same ∙ ap (all_within (layout k (leg_count bs))) vals ∙ within_all bs (layout k (leg_count bs)) w in
       let head : image_of m ≡ image fs (2 ∷ kind_code k ∷ values_of m) =
-      ap (λ (l : List Field). image (head_layout ++ l) (2 ∷ kind_code (kind_of m) ∷ values_of m)) same ∙ ap (λ (j : Kind). image fs (2 ∷ kind_code j ∷ values_of m)) (kind_said k 2 bs) in
+      ap (λ (l : List Field). image (head_layout ++ l) (2 ∷ kind_code (kind_of m) ∷ values_of m)) same ∙ ap (λ (j : Kind). image fs (2 ∷ kind_code j ∷ values_of m)) (kind_said k Signed bs) in
       let whole : image fs (2 ∷ kind_code k ∷ values_of m) ≡ image fs (values bs fs) = λ i. image fs (sym two i ∷ coded i ∷ vals i) in
       (and_from (limit_ok m) _ (limit_said k bs) inside, ap (bytes_of 14) (head ∙ whole ∙ image_back bs 0 fs (tiles k (leg_count bs))) ∙ bytes_whole bs long small)
 
-  pub again : (x : Received) → Parts bs x → x.edition ≡ 2 → (room : List ℕ) → length room ≡ 14 → (write_answer x.message room ≡ Ok tt) × (written x.message room ≡ bs)
+  pub again : (x : Received) → Parts bs x → x.edition ≡ Signed → (room : List ℕ) → length room ≡ 14 → (write_answer x.message room ≡ Ok tt) × (written x.message room ≡ bs)
   again x p e room long =
       let k = p.kind in
-      let two : field bs 0 4 ≡ 2 = ap (λ (y : Received). y.edition) p.is ∙ e in
-      let message : x.message ≡ said k 2 bs = sym (ap (λ (y : Received). y.message) p.is) ∙ ap (λ (d : ℕ). said k d bs) two in
+      let signed : p.edition ≡ Signed = ap (λ (y : Received). y.edition) p.is ∙ e in
+      let two : field bs 0 4 ≡ 2 = sym p.named ∙ ap edition_code signed in
+      let message : x.message ≡ said k Signed bs = sym (ap (λ (y : Received). y.message) p.is) ∙ ap (λ (d : Edition). said k d bs) signed in
       let a = again_said k p.long two p.coded (none_within bs (layout k (leg_count bs)) p.none) in
       let can : writable x.message room ≡ true = and_from (eqb (length room) 14) (fits x.message) (eq-eqb (length room) 14 long) (ap fits message ∙ a.0) in
       (cond-true _ _ _ can, cond-true _ _ _ can ∙ ap (λ (m : Message). bytes_of 14 (image_of m)) message ∙ a.1)
 
 -- the fields of what bits say are those that the bits write
-limit_is_written : (e raw : ℕ) → raw < 2 ^ 32 → LimitWritten e raw (limit_in e raw)
-limit_is_written e raw h =
-    ((λ one. ap (λ (d : ℕ). limit_in d raw) one), (λ two. subst (λ (d : ℕ). TwosComplement raw (limit_in d raw)) (sym two) (twos_written raw h)))
+limit_is_written : (e : Edition) (raw : ℕ) → raw < 2 ^ 32 → LimitWritten e raw (limit_in e raw)
+limit_is_written Unsigned raw h = refl
+limit_is_written Signed raw h = twos_written raw h
 
-written_said : (bs : List ℕ) (e : ℕ) (k : Kind) → kind_code k ≡ field bs 4 4 → Written bs e (said k e bs)
+edition_is_known : (n : ℕ) (e : Edition) → edition_code e ≡ n → (n ≡ edition_code Unsigned) ⊎ (n ≡ edition_code Signed)
+edition_is_known n Unsigned h = inl (sym h)
+edition_is_known n Signed h = inr (sym h)
+
+written_said : (bs : List ℕ) (e : Edition) (k : Kind) → kind_code k ≡ field bs 4 4 → Written bs e (said k e bs)
 written_said bs e kind.Place c =
     (sym c, refl, order_side_bits (field bs 16 1) (field_lt bs 16 1), mark_bits (field bs 17 1) (field_lt bs 17 1), refl, limit_is_written e (field bs 20 32) (field_lt bs 20 32), refl)
 written_said bs e kind.Cancel c = (sym c, refl)
@@ -91,7 +97,7 @@ module _ (bs : List ℕ) where
   lawful_from x p =
       record {
         long = p.long;
-        edition = ⊎_elim (λ a. inl (eqb-true (field bs 0 4) 1 a)) (λ b. inr (eqb-true (field bs 0 4) 2 b)) (or_cases (eqb (field bs 0 4) 1) (eqb (field bs 0 4) 2) p.known);
+        edition = edition_is_known (field bs 0 4) p.edition p.named;
         kind = p.kind;
         coded = p.coded;
         fields = none_within bs (layout p.kind (leg_count bs)) p.none;
@@ -99,8 +105,8 @@ module _ (bs : List ℕ) where
 
   lawful_read : Lawful bs → is_ok (read_of bs) ≡ true
   lawful_read l =
-      let known = ⊎_elim (λ a. or_left (eqb (field bs 0 4) 1) (eqb (field bs 0 4) 2) (eq-eqb (field bs 0 4) 1 a)) (λ b. or_right (eqb (field bs 0 4) 1) (eqb (field bs 0 4) 2) (eq-eqb (field bs 0 4) 2 b)) l.edition in
-      ap is_ok (reads bs l.long known l.kind l.coded (within_none bs (layout l.kind (leg_count bs)) l.fields))
+      let none = within_none bs (layout l.kind (leg_count bs)) l.fields in
+      ⊎_elim (λ a. ap is_ok (reads bs l.long Unsigned (sym a) l.kind l.coded none)) (λ b. ap is_ok (reads bs l.long Signed (sym b) l.kind l.coded none)) l.edition
 
   accepted_if : (r : Result Received ReaderFault) → r ≡ read_of bs → is_ok r ≡ true → Lawful bs
   accepted_if (Ok x) e h = lawful_from x (parts bs x (sym e))
@@ -112,7 +118,7 @@ module _ (bs : List ℕ) where
   pub as_said : (r : Result Received ReaderFault) → r ≡ read_of bs → Said bs r
   as_said (Ok x) e =
       let p = parts bs x (sym e) in
-      subst (λ (y : Received). (y.edition ≡ field bs 0 4) × Written bs y.edition y.message) p.is (refl, written_said bs (field bs 0 4) p.kind p.coded)
+      subst (λ (y : Received). (edition_code y.edition ≡ field bs 0 4) × Written bs y.edition y.message) p.is (p.named, written_said bs p.edition p.kind p.coded)
   as_said (Err f) e = tt
 
   pub written_back : ((i : ℕ) → get_or bs i 0 < 256) → (r : Result Received ReaderFault) → r ≡ read_of bs → WrittenBack bs r

@@ -3,11 +3,13 @@ use Rattle.std.proofs.Common.{◌≡◌, ℕ, ◌^◌, ◌<◌, ◌≤◌, Bool,
 use Rattle.std.proofs.lemmas.Bool.{cond_both}
 use Rattle.messages.specs.declared.codes.Kind.{Kind}
 use Rattle.messages.specs.declared.codes.Kind.TheVariants as kind
+use Rattle.contents.specs.declared.edition.Edition.{Edition}
+use Rattle.contents.specs.declared.edition.Edition.TheVariants.{Signed}
 use Rattle.contents.specs.declared.message.LegFields.{LegFields}
 use Rattle.contents.specs.declared.message.Message.{Message}
 use Rattle.contents.specs.declared.message.Message.TheVariants.{Place, Cancel, Evaluate, Define}
 use Rattle.messages.specs.Bits.{field}
-use Rattle.messages.specs.Codes.{order_side_coded, leg_side_code, leg_side_coded}
+use Rattle.contents.specs.Sides.{order_side_coded, leg_side_code, leg_side_coded}
 use Rattle.messages.specs.Laws.{Within}
 use Rattle.messages.specs.Layout.{all_ones, unused_bits, head_layout, order_layout, place_greatest, define_layout, layout}
 use Rattle.messages.specs.Limits.{twos_complement}
@@ -40,10 +42,10 @@ capable kind.Define n =
 
 pub as_many : (m : Message) → length (layout (kind_of m) (count_of m)) ≡ length (values_of m)
 unfolding unused_bits
-as_many (Place s d m t l q) = refl
+as_many (Place o) = refl
 as_many (Cancel n) = refl
 as_many (Evaluate s) = refl
-as_many (Define c legs) = refl
+as_many (Define d) = refl
 
 four : (ls : List LegFields) → length ls ≡ 4 → (leg ls 0 ∷ leg ls 1 ∷ leg ls 2 ∷ leg ls 3 ∷ []) ≡ ls
 four [] h = absurd (omega arith)
@@ -54,44 +56,45 @@ four (a ∷ b ∷ d ∷ e ∷ []) h = refl
 four (a ∷ b ∷ d ∷ e ∷ f ∷ ls) h = absurd (omega arith)
 
 -- bits that write a message's values say the message
-pub said_back : (bs : List ℕ) (m : Message) → FourLegged m → limit_ok m ≡ true → values bs (layout (kind_of m) (count_of m)) ≡ values_of m → said (kind_of m) 2 bs ≡ m
-said_back bs (Place s d m t l q) four-legs fit e =
-    let at : (i : ℕ) → get_or (values bs (order_layout place_greatest)) i 0 ≡ get_or (values_of (Place s d m t l q)) i 0 = λ i. ap (λ (xs : List ℕ). get_or xs i 0) e in
-    let side = ap order_side_coded (at 1) ∙ order_side_back d in
-    let market = ap (λ (x : ℕ). eqb x 1) (at 2) ∙ mark_back m in
-    let limit = ap twos_complement (at 4) ∙ limit_back l fit in
-    λ i. Place (at 0 i) (side i) (market i) (at 3 i) (limit i) (at 5 i)
+pub said_back : (bs : List ℕ) (m : Message) → FourLegged m → limit_ok m ≡ true → values bs (layout (kind_of m) (count_of m)) ≡ values_of m → said (kind_of m) Signed bs ≡ m
+said_back bs (Place o) four-legs fit e =
+    let at : (i : ℕ) → get_or (values bs (order_layout place_greatest)) i 0 ≡ get_or (values_of (Place o)) i 0 = λ i. ap (λ (xs : List ℕ). get_or xs i 0) e in
+    let side = ap order_side_coded (at 1) ∙ order_side_back o.side in
+    let market = ap (λ (x : ℕ). eqb x 1) (at 2) ∙ mark_back o.market in
+    let limit = ap twos_complement (at 4) ∙ limit_back o.limit fit in
+    λ i. Place (record { strategy = at 0 i; side = side i; market = market i; time_in_force = at 3 i; limit = limit i; quantity = at 5 i })
 said_back bs (Cancel n) four-legs fit e = ap (λ (xs : List ℕ). Cancel (get_or xs 6 0)) e
 said_back bs (Evaluate s) four-legs fit e = ap (λ (xs : List ℕ). Evaluate (get_or xs 0 0)) e
-said_back bs (Define c ls) four-legs fit e =
-    let at : (i : ℕ) → get_or (values bs (define_layout c)) i 0 ≡ get_or (values_of (Define c ls)) i 0 = λ i. ap (λ (xs : List ℕ). get_or xs i 0) e in
+said_back bs (Define r) four-legs fit e =
+    let ls = r.legs in
+    let at : (i : ℕ) → get_or (values bs (define_layout r.count)) i 0 ≡ get_or (values_of (Define r)) i 0 = λ i. ap (λ (xs : List ℕ). get_or xs i 0) e in
     let a : leg_at bs 12 ≡ leg ls 0 = λ i. record { series = at 1 i; side = (ap leg_side_coded (at 2) ∙ leg_side_back (leg ls 0).side) i; ratio = at 3 i } in
     let b : leg_at bs 27 ≡ leg ls 1 = λ i. record { series = at 4 i; side = (ap leg_side_coded (at 5) ∙ leg_side_back (leg ls 1).side) i; ratio = at 6 i } in
     let d : leg_at bs 42 ≡ leg ls 2 = λ i. record { series = at 7 i; side = (ap leg_side_coded (at 8) ∙ leg_side_back (leg ls 2).side) i; ratio = at 9 i } in
     let f : leg_at bs 57 ≡ leg ls 3 = λ i. record { series = at 10 i; side = (ap leg_side_coded (at 11) ∙ leg_side_back (leg ls 3).side) i; ratio = at 12 i } in
     let legs : (leg_at bs 12 ∷ leg_at bs 27 ∷ leg_at bs 42 ∷ leg_at bs 57 ∷ []) ≡ ls = (λ i. a i ∷ b i ∷ d i ∷ f i ∷ []) ∙ four ls four-legs in
-    λ i. Define (at 0 i) (legs i)
+    λ i. Define (record { count = at 0 i; legs = legs i })
 
 -- the layout of what bits say is the layout that they were read by
 pub count_back : (bs : List ℕ) (m : Message) → values bs (layout (kind_of m) (count_of m)) ≡ values_of m → layout (kind_of m) (leg_count bs) ≡ layout (kind_of m) (count_of m)
-count_back bs (Place s d m t l q) e = refl
+count_back bs (Place o) e = refl
 count_back bs (Cancel n) e = refl
 count_back bs (Evaluate s) e = refl
-count_back bs (Define c ls) e = ap (λ (xs : List ℕ). define_layout (get_or xs 0 0)) e
+count_back bs (Define d) e = ap (λ (xs : List ℕ). define_layout (get_or xs 0 0)) e
 
-pub layout_said : (k : Kind) (e : ℕ) (bs : List ℕ) → layout (kind_of (said k e bs)) (count_of (said k e bs)) ≡ layout k (leg_count bs)
+pub layout_said : (k : Kind) (e : Edition) (bs : List ℕ) → layout (kind_of (said k e bs)) (count_of (said k e bs)) ≡ layout k (leg_count bs)
 layout_said kind.Place e bs = refl
 layout_said kind.Cancel e bs = refl
 layout_said kind.Evaluate e bs = refl
 layout_said kind.Define e bs = refl
 
-pub kind_said : (k : Kind) (e : ℕ) (bs : List ℕ) → kind_of (said k e bs) ≡ k
+pub kind_said : (k : Kind) (e : Edition) (bs : List ℕ) → kind_of (said k e bs) ≡ k
 kind_said kind.Place e bs = refl
 kind_said kind.Cancel e bs = refl
 kind_said kind.Evaluate e bs = refl
 kind_said kind.Define e bs = refl
 
-pub limit_said : (k : Kind) (bs : List ℕ) → limit_ok (said k 2 bs) ≡ true
+pub limit_said : (k : Kind) (bs : List ℕ) → limit_ok (said k Signed bs) ≡ true
 limit_said kind.Place bs = limit_fit (field bs 20 32) (field_lt bs 20 32)
 limit_said kind.Cancel bs = refl
 limit_said kind.Evaluate bs = refl
@@ -101,7 +104,7 @@ zero_of : (x : ℕ) → x ≤ 0 → 0 ≡ x
 zero_of x h = omega arith
 
 -- the values of what bits say are those that they write
-pub values_said : (k : Kind) (bs : List ℕ) → Within bs (layout k (leg_count bs)) → values_of (said k 2 bs) ≡ values bs (layout k (leg_count bs))
+pub values_said : (k : Kind) (bs : List ℕ) → Within bs (layout k (leg_count bs)) → values_of (said k Signed bs) ≡ values bs (layout k (leg_count bs))
 values_said kind.Place bs w =
     let side = order_side_bits (field bs 16 1) (field_lt bs 16 1) in
     let market = mark_bits (field bs 17 1) (field_lt bs 17 1) in

@@ -3,12 +3,16 @@ use Rattle.std.specs.Prelude.{◌≡◌, ℕ, ◌+◌, ◌^◌, ◌≤◌, true,
 use Rattle.messages.specs.declared.codes.Kind.{Kind}
 use Rattle.messages.specs.declared.codes.Kind.TheVariants as kind
 use Rattle.contents.specs.declared.fault.ReaderFault.{ReaderFault}
+use Rattle.contents.specs.declared.edition.Edition.{Edition}
+use Rattle.contents.specs.declared.edition.Edition.TheVariants as edition
 use Rattle.contents.specs.declared.message.LegFields.{LegFields}
 use Rattle.contents.specs.declared.message.Message.{Message}
 use Rattle.contents.specs.declared.message.Message.TheVariants.{Place, Cancel, Evaluate, Define}
 use Rattle.contents.specs.declared.message.Received.{Received}
 use Rattle.messages.specs.Bits.{message_bytes, field}
-use Rattle.messages.specs.Codes.{unsigned_edition, signed_edition, kind_code, order_side_code, leg_side_code, mark_code}
+use Rattle.contents.specs.Editions.{edition_code}
+use Rattle.contents.specs.Sides.{order_side_code, leg_side_code}
+use Rattle.messages.specs.Codes.{kind_code, mark_code}
 use Rattle.messages.specs.Layout.{Field, layout}
 use Rattle.messages.specs.Reading.{leg_count, received, read_of}
 use Rattle.messages.specs.Writing.{leg, write_answer, written}
@@ -21,7 +25,7 @@ Within bytes (f ∷ fs) = (field bytes f.place f.width ≤ f.greatest) × Within
 -- the length, the edition, the kind and every field are lawful
 pub record Lawful (bytes : List ℕ) : Type 0 where
   pub long : length bytes ≡ message_bytes
-  pub edition : (field bytes 0 4 ≡ unsigned_edition) ⊎ (field bytes 0 4 ≡ signed_edition)
+  pub edition : (field bytes 0 4 ≡ edition_code edition.Unsigned) ⊎ (field bytes 0 4 ≡ edition_code edition.Signed)
   pub kind : Kind
   pub coded : kind_code kind ≡ field bytes 4 4
   pub fields : Within bytes (layout kind (leg_count bytes))
@@ -37,42 +41,43 @@ Unsigned raw limit = limit ≡ pos raw
 abbrev pub TwosComplement : ℕ → ℤ → Type 0
 TwosComplement raw limit = (neg_ℤ (pos (2 ^ 31)) ≤ℤ limit) × (limit <ℤ pos (2 ^ 31)) × ((limit ≡ pos raw) ⊎ (limit +ℤ pos (2 ^ 32) ≡ pos raw))
 
-abbrev pub LimitWritten : ℕ → ℕ → ℤ → Type 0
-LimitWritten edition raw limit = (edition ≡ unsigned_edition → Unsigned raw limit) × (edition ≡ signed_edition → TwosComplement raw limit)
+abbrev pub LimitWritten : Edition → ℕ → ℤ → Type 0
+LimitWritten edition.Unsigned raw limit = Unsigned raw limit
+LimitWritten edition.Signed raw limit = TwosComplement raw limit
 
 -- the leg whose bits begin at `place`
 abbrev pub LegWritten : List ℕ → ℕ → LegFields → Type 0
 LegWritten bytes place l = (l.series ≡ field bytes place 10) × (leg_side_code l.side ≡ field bytes (place + 10) 1) × (l.ratio ≡ field bytes (place + 11) 4)
 
 -- each field of a message is the number that its bits write
-abbrev pub Written : List ℕ → ℕ → Message → Type 0
-Written bytes edition (Place s d m t l q) =
+abbrev pub Written : List ℕ → Edition → Message → Type 0
+Written bytes e (Place o) =
     (field bytes 4 4 ≡ kind_code kind.Place)
-    × (s ≡ field bytes 8 8)
-    × (order_side_code d ≡ field bytes 16 1)
-    × (mark_code m ≡ field bytes 17 1)
-    × (t ≡ field bytes 18 2)
-    × LimitWritten edition (field bytes 20 32) l
-    × (q ≡ field bytes 52 16)
-Written bytes edition (Cancel n) = (field bytes 4 4 ≡ kind_code kind.Cancel) × (n ≡ field bytes 68 32)
-Written bytes edition (Evaluate s) = (field bytes 4 4 ≡ kind_code kind.Evaluate) × (s ≡ field bytes 8 8)
-Written bytes edition (Define c legs) =
+    × (o.strategy ≡ field bytes 8 8)
+    × (order_side_code o.side ≡ field bytes 16 1)
+    × (mark_code o.market ≡ field bytes 17 1)
+    × (o.time_in_force ≡ field bytes 18 2)
+    × LimitWritten e (field bytes 20 32) o.limit
+    × (o.quantity ≡ field bytes 52 16)
+Written bytes e (Cancel n) = (field bytes 4 4 ≡ kind_code kind.Cancel) × (n ≡ field bytes 68 32)
+Written bytes e (Evaluate s) = (field bytes 4 4 ≡ kind_code kind.Evaluate) × (s ≡ field bytes 8 8)
+Written bytes e (Define d) =
     (field bytes 4 4 ≡ kind_code kind.Define)
-    × (c ≡ field bytes 8 4)
-    × (length legs ≡ 4)
-    × LegWritten bytes 12 (leg legs 0)
-    × LegWritten bytes 27 (leg legs 1)
-    × LegWritten bytes 42 (leg legs 2)
-    × LegWritten bytes 57 (leg legs 3)
+    × (d.count ≡ field bytes 8 4)
+    × (length d.legs ≡ 4)
+    × LegWritten bytes 12 (leg d.legs 0)
+    × LegWritten bytes 27 (leg d.legs 1)
+    × LegWritten bytes 42 (leg d.legs 2)
+    × LegWritten bytes 57 (leg d.legs 3)
 
 -- what is read is what is written there, in the edition that is written there
 abbrev pub Said : List ℕ → Result Received ReaderFault → Type 0
-Said bytes r = IfOk r (λ x. (x.edition ≡ field bytes 0 4) × Written bytes x.edition x.message)
+Said bytes r = IfOk r (λ x. (edition_code x.edition ≡ field bytes 0 4) × Written bytes x.edition x.message)
 
 -- a message that was written is read back with all its fields
 abbrev pub ReadBack : Message → List ℕ → Type 0
-ReadBack m bytes = read_of bytes ≡ Ok (received signed_edition m)
+ReadBack m bytes = read_of bytes ≡ Ok (received edition.Signed m)
 
 -- a message that was read in edition 2 is written back, byte by byte, into any room of its length
 abbrev pub WrittenBack : List ℕ → Result Received ReaderFault → Type 0
-WrittenBack bytes r = IfOk r (λ x. x.edition ≡ signed_edition → (room : List ℕ) → length room ≡ message_bytes → (write_answer x.message room ≡ Ok tt) × (written x.message room ≡ bytes))
+WrittenBack bytes r = IfOk r (λ x. x.edition ≡ edition.Signed → (room : List ℕ) → length room ≡ message_bytes → (write_answer x.message room ≡ Ok tt) × (written x.message room ≡ bytes))

@@ -3,5 +3,6 @@ pub mod Codes
 pub mod Limits
 pub mod Layout
 pub mod Reading
+pub mod Passing
 pub mod Writing
 pub mod Laws

@@ -1,125 +1,108 @@
 // The reader of messages.
 ghost use Rattle.std.specs.Prelude.{◌≡◌, ℕ, ◌+◌, ◌-◌, ◌*◌, ◌/◌, ◌%◌, ◌^◌, ◌<◌, ◌≤◌, length};
-ghost use Rattle.messages.specs.declared.codes.Kind.TheVariants.{Define};
-ghost use Rattle.contents.specs.Faults.{reader_fault};
 ghost use Rattle.messages.specs.Laws.{Accepted, Said, WrittenBack};
 ghost use Rattle.messages.specs.Layout.{order_layout, leg_layout, define_layout, layout};
 ghost use Rattle.messages.specs.Limits.{limit_in};
-ghost use Rattle.messages.specs.Reading.{first, first_offence, order_fields, leg_at, leg_count, said, read_of};
+ghost use Rattle.messages.specs.Bits.{message_bits};
+ghost use Rattle.messages.specs.Passing.{Passed};
+ghost use Rattle.messages.specs.Reading.{order_fields, leg_at, leg_count, defined, said, read_of};
 
 use crate::bits::BitReader;
-use crate::codes::{Kind, SIGNED_EDITION, UNSIGNED_EDITION, leg_side_coded, order_side_coded};
+use crate::codes::Kind;
 use crate::fields::{CANCEL, EVALUATE, OrderFields, PLACE, most};
-use contents::{LegFields, Message, ReaderFault, Received};
+use contents::{
+    DefineFields, Edition, LegFields, LegSide, Message, OrderSide, PlaceFields, ReaderFault,
+    Received,
+};
 use refusals::Reason;
 
-// The limit that 32 bits say: two's complement in edition 2, without a sign in edition 1.
-fn limit_of(edition: u64, raw: u64) -> i64
+// The limit that 32 bits say.
+fn limit_of(edition: Edition, raw: u64) -> i64
     requires { raw < 2 ^ 32 }
     ensures { result ≡ limit_in edition raw }
 {
-    let value = raw as i64;
-    if edition == SIGNED_EDITION && raw >= 1 << 31 {
-        value - (1 << 32)
+    if edition == Edition::Signed {
+        (raw as u32).cast_signed() as i64
     } else {
-        value
-    }
-}
-
-fn fault(reason: Reason, bit: u32) -> ReaderFault
-    ensures { result ≡ reader_fault reason bit }
-{
-    ReaderFault {
-        number: reason.number(),
-        bit,
+        raw as i64
     }
 }
 
 impl BitReader<'_> {
     // The fields that placing, cancelling and evaluating share; one that is above its greatest offends.
     fn order_fields(&mut self, greatest: &OrderFields) -> OrderFields
-        requires message { length self.old.bytes.now ≡ 14 }
         requires begins { self.old.at ≡ 8 }
         ensures value { result ≡ order_fields self.old.bytes.now }
-        ensures noted { self.new.offence ≡ first self.old.offence (first_offence self.old.bytes.now (order_layout greatest.now)) }
+        ensures passed { Passed self.old self.new 104 (order_layout greatest.now) }
         ensures narrow { result.limit < 2 ^ 32 }
     {
-        let strategy = self.field(8, greatest.strategy);
-        let side = self.field(1, greatest.side);
-        let market = self.field(1, greatest.market);
-        let time_in_force = self.field(2, greatest.time_in_force);
-        let limit = self.field(32, greatest.limit);
-        let quantity = self.field(16, greatest.quantity);
-        let number = self.field(32, greatest.number);
+        let fields = OrderFields {
+            strategy: self.field(8, greatest.strategy),
+            side: self.field(1, greatest.side),
+            market: self.field(1, greatest.market),
+            time_in_force: self.field(2, greatest.time_in_force),
+            limit: self.field(32, greatest.limit),
+            quantity: self.field(16, greatest.quantity),
+            number: self.field(32, greatest.number),
+        };
         self.unused_bits(12);
-        OrderFields {
-            strategy,
-            side,
-            market,
-            time_in_force,
-            limit,
-            quantity,
-            number,
-        }
+        fields
     }
 
     // The next leg, which answers its own first bit; one beyond the count is 0.
     fn leg(&mut self, within: bool) -> LegFields
-        requires message { length self.old.bytes.now ≡ 14 }
-        requires begins { self.old.at + 15 ≤ 112 }
+        requires begins { self.old.at + 15 ≤ message_bits }
         ensures value { result ≡ leg_at self.old.bytes.now self.old.at }
-        ensures moved { self.new.at ≡ self.old.at + 15 }
-        ensures noted { self.new.offence ≡ first self.old.offence (first_offence self.old.bytes.now (leg_layout within self.old.at)) }
-        ensures same { self.new.bytes.now ≡ self.old.bytes.now }
+        ensures passed { Passed self.old self.new 15 (leg_layout within self.old.at) }
     {
         let place = self.at as u32;
-        let series = self.part(10, most(within, 10), place);
-        let side = self.part(1, most(within, 1), place);
-        let ratio = self.part(4, most(within, 4), place);
         LegFields {
-            series,
-            side: leg_side_coded(side),
-            ratio,
+            series: self.part(10, most(within, 10), place),
+            side: match self.part(1, most(within, 1), place) {
+                0 => LegSide::Bought,
+                _ => LegSide::Sold,
+            },
+            ratio: self.part(4, most(within, 4), place),
         }
     }
 
     // A definition: its leg count and four legs.
-    fn definition(&mut self) -> Message
-        requires message { length self.old.bytes.now ≡ 14 }
+    fn definition(&mut self) -> DefineFields
         requires begins { self.old.at ≡ 8 }
-        ensures value { result ≡ said Define 0 self.old.bytes.now }
-        ensures noted { self.new.offence ≡ first self.old.offence (first_offence self.old.bytes.now (define_layout (leg_count self.old.bytes.now))) }
+        ensures value { result ≡ defined self.old.bytes.now }
+        ensures passed { Passed self.old self.new 104 (define_layout (leg_count self.old.bytes.now)) }
     {
         let count = self.field(4, 15);
-        let first = self.leg(0 < count);
-        let second = self.leg(1 < count);
-        let third = self.leg(2 < count);
-        let fourth = self.leg(3 < count);
+        let legs = [
+            self.leg(0 < count),
+            self.leg(1 < count),
+            self.leg(2 < count),
+            self.leg(3 < count),
+        ];
         self.unused_bits(40);
-        Message::Define {
-            count,
-            legs: [first, second, third, fourth],
-        }
+        DefineFields { count, legs }
     }
 
     // The message of a kind, read from behind the head.
-    fn message(&mut self, kind: Kind, edition: u64) -> Message
-        requires message { length self.old.bytes.now ≡ 14 }
+    fn message(&mut self, kind: Kind, edition: Edition) -> Message
         requires begins { self.old.at ≡ 8 }
         ensures value { result ≡ said kind edition self.old.bytes.now }
-        ensures noted { self.new.offence ≡ first self.old.offence (first_offence self.old.bytes.now (layout kind (leg_count self.old.bytes.now))) }
+        ensures passed { Passed self.old self.new 104 (layout kind (leg_count self.old.bytes.now)) }
     {
         match kind {
             Kind::Place => {
                 let fields = self.order_fields(&PLACE);
-                Message::Place {
+                Message::Place(PlaceFields {
                     strategy: fields.strategy,
-                    side: order_side_coded(fields.side),
+                    side: match fields.side {
+                        0 => OrderSide::Buy,
+                        _ => OrderSide::Sell,
+                    },
                     market: fields.market == 1,
                     time_in_force: fields.time_in_force,
                     limit: limit_of(edition, fields.limit),
                     quantity: fields.quantity,
-                }
+                })
             }
             Kind::Cancel => Message::Cancel {
                 number: self.order_fields(&CANCEL).number,
@@ -127,7 +110,7 @@ impl BitReader<'_> {
             Kind::Evaluate => Message::Evaluate {
                 strategy: self.order_fields(&EVALUATE).strategy,
             },
-            Kind::Define => self.definition(),
+            Kind::Define => Message::Define(self.definition()),
         }
     }
 }
@@ -137,23 +120,21 @@ fn parse(bytes: &[u8]) -> Result<Received, ReaderFault>
     ensures { result ≡ read_of bytes.now }
 {
     if bytes.len() != 14 {
-        return Err(fault(Reason::Length, 0));
+        return Err(Reason::Length.into());
     }
     let mut reader = BitReader {
         bytes,
         at: 0,
         offence: None,
     };
-    let edition = reader.number(4);
-    if edition != UNSIGNED_EDITION && edition != SIGNED_EDITION {
-        return Err(fault(Reason::Edition, 0));
-    }
-    let Some(kind) = Kind::coded(reader.number(4)) else {
-        return Err(fault(Reason::Kind, 0));
-    };
+    let edition = Edition::try_from(reader.number(4))?;
+    let kind = Kind::try_from(reader.number(4))?;
     let message = reader.message(kind, edition);
     match reader.offence {
-        Some(bit) => Err(fault(Reason::Field, bit)),
+        Some(bit) => Err(ReaderFault {
+            reason: Reason::Field,
+            bit,
+        }),
         None => Ok(Received { edition, message }),
     }
 }

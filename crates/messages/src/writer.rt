@@ -2,16 +2,17 @@
 ghost use Rattle.std.specs.Prelude.{◌≡◌, ℕ, ◌+◌, ◌-◌, ◌*◌, ◌/◌, ◌%◌, ◌^◌, ◌<◌, ◌≤◌, true, [], ◌∷◌, length, OnOk};
 ghost use Rattle.contents.specs.declared.message.Message.TheVariants.{Place, Cancel, Evaluate, Define};
 ghost use Rattle.messages.specs.Bits.{bytes_of};
-ghost use Rattle.messages.specs.Codes.{signed_edition, kind_code};
+ghost use Rattle.contents.specs.declared.edition.Edition.TheVariants.{Signed};
+ghost use Rattle.contents.specs.Editions.{edition_code};
+ghost use Rattle.messages.specs.Codes.{kind_code};
 ghost use Rattle.messages.specs.Laws.{ReadBack};
 ghost use Rattle.messages.specs.Layout.{head_layout, order_layout, place_greatest, leg_layout, define_layout};
 ghost use Rattle.messages.specs.Limits.{limit_fits, limit_bits};
 ghost use Rattle.messages.specs.Writing.{order_fields_of, order_values, leg_values, all_within, fits, FourLegged, image, values_of, image_of, writable, write_answer, written};
 
-use crate::codes::{Kind, SIGNED_EDITION, leg_side_code, order_side_code};
+use crate::codes::Kind;
 use crate::fields::{CANCEL, EVALUATE, OrderFields, PLACE, most};
-use contents::{LegFields, Message, OrderSide, WriterFault};
-use refusals::Reason;
+use contents::{DefineFields, Edition, LegFields, Message, PlaceFields, WriterFault};
 
 // Whether 32 bits hold a limit in two's complement.
 fn limit_fits(limit: i64) -> bool
@@ -52,29 +53,22 @@ fn leg_within(leg: &LegFields, counted: bool) -> bool
     ensures { result ≡ all_within (leg_layout counted 0) (leg_values leg.now) }
 {
     leg.series <= most(counted, 10)
-        && leg_side_code(leg.side) <= most(counted, 1)
+        && u64::from(leg.side) <= most(counted, 1)
         && leg.ratio <= most(counted, 4)
 }
 
 // The fields of a message that places an order, whose limit fits.
-fn placing(
-    strategy: u64,
-    side: OrderSide,
-    market: bool,
-    time_in_force: u64,
-    limit: i64,
-    quantity: u64,
-) -> OrderFields
-    requires { limit_fits limit ≡ true }
-    ensures { result ≡ order_fields_of (Place strategy side market time_in_force limit quantity) }
+fn placing(order: &PlaceFields) -> OrderFields
+    requires { limit_fits order.now.limit ≡ true }
+    ensures { result ≡ order_fields_of (Place order.now) }
 {
     OrderFields {
-        strategy,
-        side: order_side_code(side),
-        market: market as u64,
-        time_in_force,
-        limit: limit_bits(limit),
-        quantity,
+        strategy: order.strategy,
+        side: order.side.into(),
+        market: order.market as u64,
+        time_in_force: order.time_in_force,
+        limit: limit_bits(order.limit),
+        quantity: order.quantity,
         number: 0,
     }
 }
@@ -108,9 +102,10 @@ fn evaluating(strategy: u64) -> OrderFields
 }
 
 // Whether the leg count and the legs of a definition may stand in their fields.
-fn definition_fits(count: u64, legs: &[LegFields; 4]) -> bool
-    ensures { result ≡ fits (Define count legs.now) }
+fn definition_fits(row: &DefineFields) -> bool
+    ensures { result ≡ fits (Define row.now) }
 {
+    let DefineFields { count, legs } = *row;
     let first = leg_within(&legs[0], 0 < count);
     let second = leg_within(&legs[1], 1 < count);
     let third = leg_within(&legs[2], 2 < count);
@@ -123,20 +118,10 @@ fn fit(message: &Message) -> bool
     ensures { result ≡ fits message.now }
 {
     match *message {
-        Message::Place {
-            strategy,
-            side,
-            market,
-            time_in_force,
-            limit,
-            quantity,
-        } => {
-            limit_fits(limit)
-                && placing(strategy, side, market, time_in_force, limit, quantity).within(&PLACE)
-        }
+        Message::Place(order) => limit_fits(order.limit) && placing(&order).within(&PLACE),
         Message::Cancel { number } => cancelling(number).within(&CANCEL),
         Message::Evaluate { strategy } => evaluating(strategy).within(&EVALUATE),
-        Message::Define { count, legs } => definition_fits(count, &legs),
+        Message::Define(row) => definition_fits(&row),
     }
 }
 
@@ -153,10 +138,10 @@ fn placed(value: u64, place: usize, width: usize) -> u128
 
 // The edition and the kind, which every message begins with.
 fn head_image(kind: Kind) -> u128
-    ensures image { result ≡ image head_layout (signed_edition ∷ kind_code kind ∷ []) }
+    ensures image { result ≡ image head_layout (edition_code Signed ∷ kind_code kind ∷ []) }
     ensures bound { result < 2 ^ 113 }
 {
-    placed(SIGNED_EDITION, 0, 4) + placed(kind.code(), 4, 4)
+    placed(Edition::Signed.into(), 0, 4) + placed(kind as u64, 4, 4)
 }
 
 // The bits of the fields that placing, cancelling and evaluating share.
@@ -189,14 +174,14 @@ fn leg_image(leg: &LegFields, place: usize) -> u128
     ensures bound { result < 2 ^ 114 }
 {
     placed(leg.series, place, 10)
-        + placed(leg_side_code(leg.side), place + 10, 1)
+        + placed(u64::from(leg.side), place + 10, 1)
         + placed(leg.ratio, place + 11, 4)
 }
 
 // The bits of a definition behind the head.
 fn define_image(count: u64, legs: &[LegFields; 4]) -> u128
-    requires { fits (Define count legs.now) ≡ true }
-    ensures image { result ≡ image (define_layout count) (values_of (Define count legs.now)) }
+    requires { fits (Define (record { count = count; legs = legs.now })) ≡ true }
+    ensures image { result ≡ image (define_layout count) (values_of (Define (record { count = count; legs = legs.now }))) }
     ensures bound { result < 2 ^ 117 }
     ensures legs { length legs.now ≡ 4 }
 {
@@ -214,21 +199,11 @@ fn image(message: &Message) -> u128
     ensures legs { FourLegged message.now }
 {
     match *message {
-        Message::Place {
-            strategy,
-            side,
-            market,
-            time_in_force,
-            limit,
-            quantity,
-        } => {
-            head_image(Kind::Place)
-                + order_image(&placing(strategy, side, market, time_in_force, limit, quantity))
-        }
+        Message::Place(order) => head_image(Kind::Place) + order_image(&placing(&order)),
         Message::Cancel { number } => head_image(Kind::Cancel) + order_image(&cancelling(number)),
         Message::Evaluate { strategy } => head_image(Kind::Evaluate)
             + order_image(&evaluating(strategy)),
-        Message::Define { count, legs } => head_image(Kind::Define) + define_image(count, &legs),
+        Message::Define(row) => head_image(Kind::Define) + define_image(row.count, &row.legs),
     }
 }
 
@@ -256,9 +231,7 @@ pub fn write(message: &Message, room: &mut [u8]) -> Result<(), WriterFault>
     ensures back { OnOk result (ReadBack message.now room.new) }
 {
     if !is_writable(message, room) {
-        return Err(WriterFault {
-            number: Reason::Unwritable.number(),
-        });
+        return Err(WriterFault);
     }
     put(image(message), room);
     Ok(())

@@ -6,10 +6,12 @@ use Rattle.contents.specs.declared.fault.ReaderFault.{ReaderFault}
 use Rattle.contents.specs.declared.message.LegFields.{LegFields}
 use Rattle.contents.specs.declared.message.Message.{Message}
 use Rattle.contents.specs.declared.message.Message.TheVariants as message
+use Rattle.contents.specs.declared.message.PlaceFields.{PlaceFields}
 use Rattle.contents.specs.declared.message.Received.{Received}
 use Rattle.contents.specs.declared.sides.LegSide.{LegSide}
 use Rattle.contents.specs.declared.sides.LegSide.TheVariants.{Bought, Sold}
 use Rattle.contents.specs.declared.time.TimeInForce.TheVariants.{Day}
+use Rattle.contents.specs.Faults.{reader_refusal}
 use Rattle.contents.specs.Times.{time_coded}
 use Rattle.messages.specs.Reading.{read_of}
 use Rattle.simple.specs.Lots.{Lots}
@@ -74,6 +76,11 @@ answer_intake (Ok (intake.Cancelled q)) = cancelled q
 answer_intake (Err (Unread fault)) = unread fault
 answer_intake (Err (Refused why)) = refused why
 
+-- the whole refusal of a message that was not carried out
+abbrev pub intake_refusal : IntakeFault → Refusal
+intake_refusal (Unread fault) = reader_refusal fault
+intake_refusal (Refused why) = why
+
 -- how many records an answer tells of
 abbrev pub records_told : Answer → ℕ
 records_told (defined n) = 0
@@ -104,11 +111,14 @@ leg_said l = record { series = l.series; bought = is_bought l.side; ratio = l.ra
     is_bought Sold = false
 
 -- the reader lets no other time in force through
+abbrev pub order_said : PlaceFields → NewOrder
+order_said o = record { strategy = o.strategy; side = o.side; market = o.market; limit = o.limit; time_in_force = unwrap_or (time_coded o.time_in_force) Day; quantity = o.quantity }
+
 abbrev pub call_said : Message → Call
-call_said (message.Place strategy side market time limit quantity) = place (record { strategy = strategy; side = side; market = market; limit = limit; time_in_force = unwrap_or (time_coded time) Day; quantity = quantity })
+call_said (message.Place o) = place (order_said o)
 call_said (message.Cancel number) = cancel number
 call_said (message.Evaluate strategy) = evaluate strategy
-call_said (message.Define count legs) = define (record { count = count; legs = map leg_said legs })
+call_said (message.Define d) = define (record { count = d.count; legs = map leg_said d.legs })
 
 abbrev pub call_in : Result Received ReaderFault → Call
 call_in (Ok x) = call_said x.message

@@ -1,6 +1,7 @@
 // What the calls answer.
 ghost use Rattle.std.specs.Prelude.{◌≡◌};
 ghost use Rattle.rules.specs.declared.answer.IntakeFault.TheVariants.{Unread, Refused};
+ghost use Rattle.rules.specs.Events.{intake_refusal};
 
 use contents::ReaderFault;
 use refusals::Refusal;
@@ -58,5 +59,17 @@ impl From<Refusal> for IntakeFault {
 
     fn from(why: Refusal) -> IntakeFault {
         IntakeFault::Refused(why)
+    }
+}
+
+// The whole refusal, at the station of the reader or of the call.
+impl From<IntakeFault> for Refusal {
+    ghost from_gives = { λ fault refusal. refusal ≡ intake_refusal fault };
+
+    fn from(fault: IntakeFault) -> Refusal {
+        match fault {
+            IntakeFault::Unread(fault) => fault.into(),
+            IntakeFault::Refused(why) => why,
+        }
     }
 }

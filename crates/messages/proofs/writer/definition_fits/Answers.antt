@@ -5,9 +5,9 @@ use Rattle.messages.proofs.writer.definition_fits.Goals as goal
 
 pub returns-then-third : goal.returns-then-third
 returns-then-third c =
-    let whole = define_fits c.args.count c.args.legs.now in
+    let whole = define_fits c.args.row.now in
     let met = c.if-third.true in
     let first = sym c.leg_within-first.ensures ∙ met.1 in
     let second = sym c.leg_within-second.ensures ∙ met.2 in
     let third = sym c.leg_within-third.ensures ∙ met.3 in
-    sym (whole ∙ and_last _ (le-leb c.args.count 15 met.0) first second third ∙ sym c.leg_within-fourth.ensures)
+    sym (whole ∙ and_last _ (le-leb c.args.row.now.count 15 met.0) first second third ∙ sym c.leg_within-fourth.ensures)

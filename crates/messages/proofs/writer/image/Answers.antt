@@ -1,8 +1,8 @@
-use Rattle.std.proofs.Common.{◌≡◌, ℕ, ℤ, sym, ap, ◌∙◌, subst, w64, to_z, of_z, rules}
+use Rattle.std.proofs.Common.{ℕ, sym, ap, ◌∙◌, subst}
 use Rattle.messages.specs.declared.fields.OrderFields.{OrderFields}
 use Rattle.contents.specs.declared.message.Message.TheVariants.{Place, Cancel, Evaluate, Define}
 use Rattle.messages.specs.Layout.{order_layout, place_greatest}
-use Rattle.messages.specs.Writing.{FourLegged, fits, order_fields_of, order_values, image, image_of}
+use Rattle.messages.specs.Writing.{FourLegged, fits, order_values, image, image_of}
 use Rattle.messages.proofs.Imaging.{whole}
 use Rattle.messages.proofs.writer.image.Goals as goal
 
@@ -14,10 +14,8 @@ define_image-requires c = sym (ap fits c.in-Define.is) ∙ c.requires
 
 pub returns-in-Place : goal.returns-in-Place
 returns-in-Place c =
-    let z : to_z w64 (of_z w64 c.in-Place.limit) ≡ c.in-Place.limit = search rules in
-    let fields = c.placing.ensures ∙ ap (λ (l : ℤ). order_fields_of (Place c.in-Place.strategy c.in-Place.side c.in-Place.market c.in-Place.time_in_force l c.in-Place.quantity)) z in
     record {
-      image = whole (Place c.in-Place.strategy c.in-Place.side c.in-Place.market c.in-Place.time_in_force c.in-Place.limit c.in-Place.quantity) c.head_image.result c.order_image.result c.head_image.ensures.image (c.order_image.ensures.image ∙ ap order_bits fields) ∙ ap image_of (sym c.in-Place.is);
+      image = whole (Place c.in-Place.order) c.head_image.result c.order_image.result c.head_image.ensures.image (c.order_image.ensures.image ∙ ap order_bits c.placing.ensures) ∙ ap image_of (sym c.in-Place.is);
       legs = subst FourLegged (sym c.in-Place.is) tt;
     }
 
@@ -38,6 +36,6 @@ returns-in-Evaluate c =
 pub returns-in-Define : goal.returns-in-Define
 returns-in-Define c =
     record {
-      image = whole (Define c.in-Define.count c.in-Define.legs) c.head_image-in-Define.result c.define_image.result c.head_image-in-Define.ensures.image c.define_image.ensures.image ∙ ap image_of (sym c.in-Define.is);
+      image = whole (Define c.in-Define.row) c.head_image-in-Define.result c.define_image.result c.head_image-in-Define.ensures.image c.define_image.ensures.image ∙ ap image_of (sym c.in-Define.is);
       legs = subst FourLegged (sym c.in-Define.is) c.define_image.ensures.legs;
     }
