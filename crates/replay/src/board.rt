@@ -6,6 +6,7 @@ use crate::command::BookCall;
 use crate::layer::done_answer;
 use crate::sessions::SessionBook;
 use boards::QuoteBoard;
+use simple::Lot;
 
 impl SessionBook for QuoteBoard {
     ghost answers = { board_answers };
@@ -14,13 +15,14 @@ impl SessionBook for QuoteBoard {
 
     fn call(&mut self, call: BookCall) -> Answer {
         match call {
-            BookCall::Quote(entry) => done_answer(self.quote(
-                entry.series,
-                entry.side,
-                entry.customer,
-                entry.price,
-                entry.size,
-            )),
+            BookCall::Quote(entry) => {
+                let lot = Lot {
+                    price: entry.price,
+                    size: entry.size,
+                    customer: entry.customer,
+                };
+                done_answer(self.quote(entry.series, entry.side, lot))
+            },
             BookCall::Post(_) | BookCall::Withdraw(_) => Answer::Wrong(Complaint::Unfit),
         }
     }

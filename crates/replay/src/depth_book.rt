@@ -31,13 +31,14 @@ impl<'a> SessionBook for DepthBook<'a> {
     fn call(&mut self, call: BookCall) -> Answer {
         match call {
             BookCall::Quote(_) => Answer::Wrong(Complaint::Unfit),
-            BookCall::Post(entry) => posted_answer(self.post(
-                entry.series,
-                entry.side,
-                entry.customer,
-                entry.price,
-                entry.size,
-            )),
+            BookCall::Post(entry) => {
+                let lot = Lot {
+                    price: entry.price,
+                    size: entry.size,
+                    customer: entry.customer,
+                };
+                posted_answer(self.post(entry.series, entry.side, lot))
+            },
             BookCall::Withdraw(lot) => done_answer(self.withdraw(lot)),
         }
     }
