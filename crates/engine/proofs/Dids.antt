@@ -42,22 +42,21 @@ is_not true e = refl
 is_not false e = sym e
 
 -- the memory test, by its answer
-pub unready : (s : State) (b : Lots) (d : Did) → false ≡ s.ready → unless (test (not s.ready) (refused_at Opening Memory) None) s b d ≡ refuse s b (refused_at Opening Memory)
-unready s b d e = ap (λ t. unless (test (not t) (refused_at Opening Memory) None) s b d) (sym e)
-
-pub ready_so : (s : State) (b : Lots) (d : Did) → true ≡ s.ready → unless (test (not s.ready) (refused_at Opening Memory) None) s b d ≡ d
-ready_so s b d e = ap (λ t. unless (test (not t) (refused_at Opening Memory) None) s b d) (sym e)
-
 abbrev pub memory_test : State → Option Refusal
 memory_test s = test (not s.ready) (refused_at Opening Memory) None
 
 -- a refusal ends a call, and without one it goes on
 module _ (s : State) (b : Lots) (d : Did) (r : Option Refusal) where
-  stopped : (why : Refusal) → Some why ≡ r → unless r s b d ≡ refuse s b why
+  pub stopped : (why : Refusal) → Some why ≡ r → unless r s b d ≡ refuse s b why
   stopped why e = ap (λ r. unless r s b d) (sym e)
 
-  goes_on : None ≡ r → unless r s b d ≡ d
+  pub goes_on : None ≡ r → unless r s b d ≡ d
   goes_on e = ap (λ r. unless r s b d) (sym e)
+
+-- it is the first of the tests
+pub first_test : (ready : Bool) (why : Refusal) (rest : Option Refusal) → Some why ≡ test (not ready) (refused_at Opening Memory) None → Some why ≡ test (not ready) (refused_at Opening Memory) rest
+first_test true why rest e = let z : ◌≡◌ {A = ℕ} 0 1 = cc in absurd (omega arith)
+first_test false why rest e = e
 
 -- what a call answers that is refused
 pub refused_so : (s : State) (d : Did) (b : Lots) (list : List Execution) (why : Refusal) (a : Answer) → d ≡ refuse s b why → a ≡ refused why → d ≡ record { answer = a; executions = take (records_told a) list; after = b; next = s }
