@@ -1,5 +1,5 @@
 -- What a message asks of an engine.
-use Rattle.std.proofs.Common.{◌≡◌, ℕ, ◌^◌, ◌<◌, true, false, not, ◌&&◌, leb, List, [], ◌∷◌, map, length, Some, None, Ok, Err, sym, refl, ap, ◌∙◌, subst, arith}
+use Rattle.std.proofs.Common.{◌≡◌, ℕ, ◌^◌, ◌<◌, List, [], ◌∷◌, map, length, Some, None, Ok, Err, sym, refl, ap, ◌∙◌, subst, arith}
 use Rattle.refusals.specs.declared.refusal.Refusal.{Refusal}
 use Rattle.contents.specs.declared.edition.Edition.{Edition}
 use Rattle.contents.specs.declared.fault.ReaderFault.{ReaderFault}
@@ -9,17 +9,15 @@ use Rattle.contents.specs.declared.message.LegFields.{LegFields}
 use Rattle.contents.specs.declared.message.Message.{Message}
 use Rattle.contents.specs.declared.message.Message.TheVariants as message
 use Rattle.strategies.specs.declared.leg.Leg.{Leg}
-use Rattle.strategies.specs.Rows.{row_legs, row_fault}
 use Rattle.messages.specs.Writing.{leg}
 use Rattle.messages.specs.Laws.{LegWritten, Written}
 use Rattle.messages.proofs.FieldLaws.{field_below}
 use Rattle.messages.specs.Reading.{read_of}
 use Rattle.rules.specs.declared.answer.Intake.{Intake}
 use Rattle.rules.specs.declared.answer.Intake.TheVariants as intake
-use Rattle.rules.specs.Limits.{order_places, strategy_places, most_quantity, most_accepted}
-use Rattle.rules.specs.States.{State, strategy_at, stands_among}
+use Rattle.rules.specs.States.{State}
 use Rattle.rules.specs.Events.{Call, define, place, evaluate, cancel, unreadable, unread, leg_said, call_said, call_in, call_of, answer_intake}
-use Rattle.rules.specs.Calls.{refuse, test, fault_at, limit_lawful, did}
+use Rattle.rules.specs.Calls.{refuse, did}
 use Rattle.engine.specs.Messages.{NarrowLeg, Narrow, answer_asked}
 use Rattle.engine.proofs.Dids.{memory_test, first_test, stopped, goes_on, define_refused, place_refused}
 

@@ -7,12 +7,10 @@ use Rattle.std.specs.Slice.{IsGetResult}
 use Rattle.std.proofs.lemmas.Option.{slice_get-get_or, slice_get_past}
 use Rattle.std.specs.Cmp.Lexicographic.{pointwise}
 use Rattle.std.specs.Result.{result_ok}
-use Rattle.std.proofs.lemmas.List.{drop_more, drop_all, take_more_set}
 use Rattle.refusals.specs.declared.reason.Reason.{Reason}
 use Rattle.strategies.specs.declared.leg.Leg.{Leg}
 use Rattle.strategies.specs.declared.row.StrategyRow.{StrategyRow}
 use Rattle.strategies.specs.declared.strategy.Strategy.{Strategy}
-use Rattle.strategies.specs.Legs.{blank}
 use Rattle.strategies.specs.Rows.{row_legs}
 use Rattle.strategies.specs.Strategies.{strategy_legs, checked, legs_made}
 use Rattle.rules.specs.States.{legs_in, strategy_at, same_mark, same_leg, same_legs, stands_among}

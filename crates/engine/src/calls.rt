@@ -46,8 +46,10 @@ impl<'a> Engine<'a> {
         ensures equation { (b : Lots) (k : ℕ) → Happens (model self.old) (apart (cancel number) b k (answer_cancel result)) (model self.new) }
     {
         self.check_ready()?;
-        let order = order_with(&self.orders, number)
-            .ok_or(Refusal::at(Station::Cancel, Reason::NotResting))?;
+        let order = order_with(&self.orders, number).ok_or(Refusal::at(
+            Station::Cancel,
+            Reason::NotResting,
+        ))?;
         drop_order(&mut self.orders, number);
         Ok(order.quantity)
     }

@@ -59,7 +59,8 @@ impl<'a> Engine<'a> {
         ensures { result_err result ≡ define_refusal (model self.now) row.now }
     {
         self.check_ready()?;
-        row.check().map_err(|why| Refusal::at(Station::Define, why))?;
+        row.check()
+            .map_err(|why| Refusal::at(Station::Define, why))?;
         if self.table.stands(row) {
             return Err(Refusal::at(Station::Define, Reason::SameLegs));
         }

@@ -50,8 +50,10 @@ impl<'a> Engine<'a> {
         ensures frame { B.SimpleBook.frame book.new ≡ B.SimpleBook.frame book.old }
     {
         self.check_ready()?;
-        let order = order_with(&self.orders, number)
-            .ok_or(Refusal::at(Station::Display, Reason::NotResting))?;
+        let order = order_with(&self.orders, number).ok_or(Refusal::at(
+            Station::Display,
+            Reason::NotResting,
+        ))?;
         let market = self.market_in(book, order.strategy);
         let limit = order.working_limit();
         Ok(displayed_price(market, order.buy, order.limit.is_none(), limit))

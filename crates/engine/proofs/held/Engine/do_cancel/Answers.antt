@@ -1,5 +1,5 @@
 -- `do_cancel`: refused, or one order less.
-use Rattle.std.proofs.Common.{[], eqb, sym, ap, ◌∙◌}
+use Rattle.std.proofs.Common.{[], eqb, ap, ◌∙◌}
 use Rattle.rules.specs.Events.{answer_cancel}
 use Rattle.engine.specs.Model.{model}
 use Rattle.engine.proofs.Dids.{err_so, ok_or_err, ok_or_ok, refused_so, cancel_stopped, cancel_none, cancelled_so}

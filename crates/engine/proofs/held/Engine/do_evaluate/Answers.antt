@@ -1,5 +1,5 @@
 -- `do_evaluate`: refused, or what the steps come to.
-use Rattle.std.proofs.Common.{length, eqb, sym, refl, ap, ◌∙◌}
+use Rattle.std.proofs.Common.{length, eqb, sym, ap, ◌∙◌}
 use Rattle.std.specs.Option.{option_map}
 use Rattle.ranked.specs.Held.{items}
 use Rattle.strategies.specs.Strategies.{strategy_legs}

@@ -1,5 +1,5 @@
 -- `do_place`: refused, or what the steps come to once the order is entered.
-use Rattle.std.proofs.Common.{◌+◌, eqb, length, refl, ap, ◌∙◌}
+use Rattle.std.proofs.Common.{◌+◌, eqb, length, ap, ◌∙◌}
 use Rattle.ranked.specs.Held.{items, room}
 use Rattle.strategies.specs.Strategies.{strategy_legs}
 use Rattle.rules.specs.Calls.{entered}
