@@ -52,8 +52,7 @@ mod tests {
     const NO_ORDER: Order = Order {
         strategy: 0,
         buy: false,
-        market: false,
-        limit: 0,
+        limit: Some(0),
         number: 0,
         quantity: 0,
     };

@@ -15,8 +15,7 @@ use strategies::Leg;
 const NO_ORDER: Order = Order {
     strategy: 0,
     buy: false,
-    market: false,
-    limit: 0,
+    limit: Some(0),
     number: 0,
     quantity: 0,
 };

@@ -1,8 +1,6 @@
 -- What a message asks of an engine.
-use Rattle.std.proofs.Common.{◌≡◌, ℕ, ◌^◌, ◌<◌, true, false, not, ◌&&◌, leb, List, [], ◌∷◌, map, length, is_some, None, Ok, Err, sym, refl, ap, ◌∙◌, subst, arith}
-use Rattle.refusals.specs.declared.reason.Reason.TheVariants.{Memory, SameLegs, TableFull, Strategy, Quantity, Limit, BookFull, NumbersSpent}
-use Rattle.refusals.specs.declared.station.Station.TheVariants.{Opening, Define, Place}
-use Rattle.refusals.specs.Refusals.{refused_at}
+use Rattle.std.proofs.Common.{◌≡◌, ℕ, ◌^◌, ◌<◌, List, [], ◌∷◌, map, length, Some, None, Ok, Err, sym, refl, ap, ◌∙◌, subst, arith}
+use Rattle.refusals.specs.declared.refusal.Refusal.{Refusal}
 use Rattle.contents.specs.declared.edition.Edition.{Edition}
 use Rattle.contents.specs.declared.fault.ReaderFault.{ReaderFault}
 use Rattle.contents.specs.declared.message.Received.{Received}
@@ -11,19 +9,17 @@ use Rattle.contents.specs.declared.message.LegFields.{LegFields}
 use Rattle.contents.specs.declared.message.Message.{Message}
 use Rattle.contents.specs.declared.message.Message.TheVariants as message
 use Rattle.strategies.specs.declared.leg.Leg.{Leg}
-use Rattle.strategies.specs.Rows.{row_legs, row_fault}
 use Rattle.messages.specs.Writing.{leg}
 use Rattle.messages.specs.Laws.{LegWritten, Written}
 use Rattle.messages.proofs.FieldLaws.{field_below}
 use Rattle.messages.specs.Reading.{read_of}
 use Rattle.rules.specs.declared.answer.Intake.{Intake}
 use Rattle.rules.specs.declared.answer.Intake.TheVariants as intake
-use Rattle.rules.specs.Limits.{order_places, strategy_places, most_quantity, most_accepted}
-use Rattle.rules.specs.States.{State, strategy_at, stands_among}
+use Rattle.rules.specs.States.{State}
 use Rattle.rules.specs.Events.{Call, define, place, evaluate, cancel, unreadable, unread, leg_said, call_said, call_in, call_of, answer_intake}
-use Rattle.rules.specs.Calls.{refuse, test, fault_at, limit_lawful, did}
+use Rattle.rules.specs.Calls.{refuse, did}
 use Rattle.engine.specs.Messages.{NarrowLeg, Narrow, answer_asked}
-use Rattle.engine.proofs.Dids.{unready, ready_so, define_refused, place_refused}
+use Rattle.engine.proofs.Dids.{memory_test, first_test, stopped, goes_on, define_refused, place_refused}
 
 -- a list of four is its four places
 pub four : (ls : List LegFields) → length ls ≡ 4 → ls ≡ leg ls 0 ∷ leg ls 1 ∷ leg ls 2 ∷ leg ls 3 ∷ []
@@ -54,22 +50,18 @@ narrow bytes edition (message.Define d) w = (
 )
 
 -- on other memory every call is refused
-pub unready_all : (s : State) (c : Call) (b : Lots) (k : ℕ) → false ≡ s.ready → did s c b k ≡ refuse s b (refused_at Opening Memory)
+pub stopped_all : (s : State) (c : Call) (b : Lots) (k : ℕ) (why : Refusal) → Some why ≡ memory_test s → did s c b k ≡ refuse s b why
 unfolding did
-unready_all s (define row) b k shut =
-    define_refused s row b k (refused_at Opening Memory)
-    (ap (λ ready. test (not ready) (refused_at Opening Memory) (fault_at (row_fault row) (test (stands_among (row_legs row) s.strategies) (refused_at Define SameLegs) (test (leb strategy_places (length s.strategies)) (refused_at Define TableFull) None)))) shut)
-unready_all s (place o) b k shut =
-    place_refused s o b k (refused_at Opening Memory)
-    (ap (λ ready. test (not ready) (refused_at Opening Memory) (test (not (is_some (strategy_at s.strategies o.strategy))) (refused_at Place Strategy) (test (not (leb 1 o.quantity && leb o.quantity most_quantity)) (refused_at Place Quantity) (test (not (limit_lawful o.market o.limit)) (refused_at Place Limit) (test (leb order_places (length s.orders)) (refused_at Place BookFull) (test (leb most_accepted s.accepted) (refused_at Place NumbersSpent) None)))))) shut)
-unready_all s (evaluate n) b k shut = unready s b _ shut
-unready_all s (cancel n) b k shut = unready s b _ shut
-unready_all s (unreadable fault) b k shut = unready s b _ shut
+stopped_all s (define row) b k why e = define_refused s row b k why (first_test s.ready why _ e)
+stopped_all s (place o) b k why e = place_refused s o b k why (first_test s.ready why _ e)
+stopped_all s (evaluate n) b k why e = stopped s b _ (memory_test s) why e
+stopped_all s (cancel n) b k why e = stopped s b _ (memory_test s) why e
+stopped_all s (unreadable fault) b k why e = stopped s b _ (memory_test s) why e
 
 -- a message that cannot be read changes nothing
-pub unread_so : (s : State) (bytes : List ℕ) (b : Lots) (k : ℕ) (fault : ReaderFault) → true ≡ s.ready → Err fault ≡ read_of bytes → did s (call_of bytes) b k ≡ record { answer = unread fault; executions = []; after = b; next = s }
+pub unread_so : (s : State) (bytes : List ℕ) (b : Lots) (k : ℕ) (fault : ReaderFault) → None ≡ memory_test s → Err fault ≡ read_of bytes → did s (call_of bytes) b k ≡ record { answer = unread fault; executions = []; after = b; next = s }
 unfolding did
-unread_so s bytes b k fault up e = ap (λ r. did s (call_in r) b k) (sym e) ∙ ready_so s b _ up
+unread_so s bytes b k fault up e = ap (λ r. did s (call_in r) b k) (sym e) ∙ goes_on s b _ (memory_test s) up
 
 -- one that can be read asks for its call
 pub asked_so : (bytes : List ℕ) (x : Received) → Ok x ≡ read_of bytes → call_of bytes ≡ call_said x.message

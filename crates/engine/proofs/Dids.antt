@@ -1,5 +1,8 @@
 -- What each call does, from what it left.
-use Rattle.std.proofs.Common.{◌≡◌, ℕ, ◌+◌, ◌<◌, Bool, true, false, cond, not, ◌&&◌, eqb, ltb, leb, List, [], ◌∷◌, ◌++◌, length, take, drop, is_some, Some, None, Option, sym, refl, ap, ◌∙◌, arith}
+use Rattle.std.proofs.Common.{◌≡◌, ℕ, ◌+◌, ◌<◌, Bool, true, false, cond, not, ◌&&◌, eqb, ltb, leb, List, [], ◌∷◌, ◌++◌, length, take, drop, is_some, Some, None, Ok, Err, Option, Result, sym, refl, ap, ◌∙◌, subst, arith}
+use Rattle.std.specs.Option.{ok_or}
+use Rattle.std.specs.Result.{IsErrAnd}
+use Rattle.std.proofs.lemmas.Result.{err_from_is_err_and}
 use Rattle.std.proofs.lemmas.List.{take_at}
 use Rattle.std.proofs.lemmas.Bool.{leb-false, eqb-true, lt-ltb}
 use Rattle.refusals.specs.declared.reason.Reason.{Reason}
@@ -21,7 +24,7 @@ use Rattle.rules.specs.Limits.{order_places, most_quantity, most_accepted}
 use Rattle.rules.specs.Orders.{order_ahead, dropped, order_with}
 use Rattle.rules.specs.Steps.{trading, steps}
 use Rattle.rules.specs.States.{State, strategy_at}
-use Rattle.rules.specs.Events.{define, place, evaluate, cancel, defined, placed, evaluated, cancelled, written_over}
+use Rattle.rules.specs.Events.{define, place, evaluate, cancel, Answer, defined, placed, evaluated, cancelled, refused, records_told, written_over}
 use Rattle.rules.specs.Calls.{Did, refuse, unless, test, fault_at, entered, limit_lawful, define_refusal, place_refusal, did, cancel_found, evaluate_on, place_on, placed_with}
 use Rattle.carrying.specs.Carried.{Carried, Ended}
 
@@ -39,11 +42,38 @@ is_not true e = refl
 is_not false e = sym e
 
 -- the memory test, by its answer
-pub unready : (s : State) (b : Lots) (d : Did) → false ≡ s.ready → unless (test (not s.ready) (refused_at Opening Memory) None) s b d ≡ refuse s b (refused_at Opening Memory)
-unready s b d e = ap (λ t. unless (test (not t) (refused_at Opening Memory) None) s b d) (sym e)
+abbrev pub memory_test : State → Option Refusal
+memory_test s = test (not s.ready) (refused_at Opening Memory) None
 
-pub ready_so : (s : State) (b : Lots) (d : Did) → true ≡ s.ready → unless (test (not s.ready) (refused_at Opening Memory) None) s b d ≡ d
-ready_so s b d e = ap (λ t. unless (test (not t) (refused_at Opening Memory) None) s b d) (sym e)
+-- a refusal ends a call, and without one it goes on
+module _ (s : State) (b : Lots) (d : Did) (r : Option Refusal) where
+  pub stopped : (why : Refusal) → Some why ≡ r → unless r s b d ≡ refuse s b why
+  stopped why e = ap (λ r. unless r s b d) (sym e)
+
+  pub goes_on : None ≡ r → unless r s b d ≡ d
+  goes_on e = ap (λ r. unless r s b d) (sym e)
+
+-- it is the first of the tests
+pub first_test : (ready : Bool) (why : Refusal) (rest : Option Refusal) → Some why ≡ test (not ready) (refused_at Opening Memory) None → Some why ≡ test (not ready) (refused_at Opening Memory) rest
+first_test true why rest e = let z : ◌≡◌ {A = ℕ} 0 1 = cc in absurd (omega arith)
+first_test false why rest e = e
+
+-- what a call answers that is refused
+pub refused_so : (s : State) (d : Did) (b : Lots) (list : List Execution) (why : Refusal) (a : Answer) → d ≡ refuse s b why → a ≡ refused why → d ≡ record { answer = a; executions = take (records_told a) list; after = b; next = s }
+refused_so s d b list why a e is = e ∙ ap (λ a. record { answer = a; executions = take (records_told a) list; after = b; next = s }) (sym is)
+
+-- a `?` hands its refusal on
+pub err_so : {T : Type 0} (r : Result T Refusal) (why : Refusal) → IsErrAnd r (λ y. y ≡ why) → r ≡ Err why
+err_so r why h = let p = err_from_is_err_and r h in p.1 ∙ ap Err p.2
+
+-- `ok_or`, by its answer
+pub ok_or_err : {X : Type 0} (o : Option X) (e why : Refusal) → Err why ≡ ok_or o e → (None ≡ o) × (why ≡ e)
+ok_or_err None e why is = (refl, cc)
+ok_or_err (Some x) e why is = let z : ◌≡◌ {A = ℕ} 0 1 = cc in absurd (omega arith)
+
+pub ok_or_ok : {X : Type 0} (o : Option X) (e : Refusal) (x : X) → Ok x ≡ ok_or o e → Some x ≡ o
+ok_or_ok None e x is = let z : ◌≡◌ {A = ℕ} 0 1 = cc in absurd (omega arith)
+ok_or_ok (Some y) e x is = let same : x ≡ y = cc in ap Some same
 
 -- a list of records: those written, then what stood there
 module _ (xs before after : List Execution) (n : ℕ) (list : after ≡ written_over xs before) (many : n ≡ length xs) where
@@ -79,38 +109,39 @@ module _ (s : State) (row : StrategyRow) where
 -- ## cancel
 
 module _ (s : State) (n : ℕ) (b : Lots) (k : ℕ) where
-  pub cancel_unready : false ≡ s.ready → did s (cancel n) b k ≡ refuse s b (refused_at Opening Memory)
+  pub cancel_stopped : (why : Refusal) → Some why ≡ memory_test s → did s (cancel n) b k ≡ refuse s b why
   unfolding did
-  cancel_unready e = unready s b (cancel_found s b n (order_with n s.orders)) e
+  cancel_stopped why e = stopped s b (cancel_found s b n (order_with n s.orders)) (memory_test s) why e
 
-  pub cancel_none : true ≡ s.ready → None ≡ order_with n s.orders → did s (cancel n) b k ≡ refuse s b (refused_at Cancel NotResting)
+  pub cancel_none : (why : Refusal) → None ≡ memory_test s → None ≡ order_with n s.orders → why ≡ refused_at Cancel NotResting → did s (cancel n) b k ≡ refuse s b why
   unfolding did
-  cancel_none e none = ready_so s b (cancel_found s b n (order_with n s.orders)) e ∙ ap (cancel_found s b n) (sym none)
+  cancel_none why e none is = goes_on s b (cancel_found s b n (order_with n s.orders)) (memory_test s) e ∙ ap (cancel_found s b n) (sym none) ∙ ap (refuse s b) (sym is)
 
-  pub cancelled_so : (o : Order) (ready : Bool) (os : List Order) → true ≡ s.ready → Some o ≡ order_with n s.orders → ready ≡ s.ready → os ≡ dropped n s.orders → did s (cancel n) b k ≡ record { answer = cancelled o.quantity; executions = []; after = b; next = record { ready = ready; strategies = s.strategies; orders = os; accepted = s.accepted } }
+  pub cancelled_so : (o : Order) (ready : Bool) (os : List Order) → None ≡ memory_test s → Some o ≡ order_with n s.orders → ready ≡ s.ready → os ≡ dropped n s.orders → did s (cancel n) b k ≡ record { answer = cancelled o.quantity; executions = []; after = b; next = record { ready = ready; strategies = s.strategies; orders = os; accepted = s.accepted } }
   unfolding did
   cancelled_so o ready os e some same less =
-      ready_so s b (cancel_found s b n (order_with n s.orders)) e ∙ ap (cancel_found s b n) (sym some)
+      goes_on s b (cancel_found s b n (order_with n s.orders)) (memory_test s) e ∙ ap (cancel_found s b n) (sym some)
       ∙ (λ i. record { answer = cancelled o.quantity; executions = []; after = b; next = record { ready = sym same i; strategies = s.strategies; orders = sym less i; accepted = s.accepted } })
 
 -- ## evaluate
 
 module _ (s : State) (n : ℕ) (b : Lots) (room : ℕ) where
-  pub evaluate_unready : false ≡ s.ready → did s (evaluate n) b room ≡ refuse s b (refused_at Opening Memory)
+  pub evaluate_stopped : (why : Refusal) → Some why ≡ memory_test s → did s (evaluate n) b room ≡ refuse s b why
   unfolding did
-  evaluate_unready e = unready s b (evaluate_on s b room n (strategy_at s.strategies n)) e
+  evaluate_stopped why e = stopped s b (evaluate_on s b room n (strategy_at s.strategies n)) (memory_test s) why e
 
-  pub evaluate_none : true ≡ s.ready → None ≡ strategy_at s.strategies n → did s (evaluate n) b room ≡ refuse s b (refused_at Evaluate Strategy)
+  pub evaluate_none : (why : Refusal) → None ≡ memory_test s → None ≡ strategy_at s.strategies n → why ≡ refused_at Evaluate Strategy → did s (evaluate n) b room ≡ refuse s b why
   unfolding did
-  evaluate_none e none = ready_so s b (evaluate_on s b room n (strategy_at s.strategies n)) e ∙ ap (evaluate_on s b room n) (sym none)
+  evaluate_none why e none is = goes_on s b (evaluate_on s b room n (strategy_at s.strategies n)) (memory_test s) e ∙ ap (evaluate_on s b room n) (sym none) ∙ ap (refuse s b) (sym is)
 
-  pub evaluated_so : (legs : List Leg) (ready : Bool) (before after : List Execution) (os : List Order) (lots : Lots) (v : Evaluated) → true ≡ s.ready → Some legs ≡ strategy_at s.strategies n → ready ≡ s.ready → Ended legs n (steps legs n room (trading s.orders b)) before after (trading os lots) v
+  pub evaluated_so : (legs : List Leg) (ready : Bool) (before after : List Execution) (os : List Order) (lots : Lots) (v : Evaluated) (m : ℕ) → None ≡ memory_test s → Some legs ≡ strategy_at s.strategies n → m ≡ n → ready ≡ s.ready → Ended legs m (steps legs m room (trading s.orders b)) before after (trading os lots) v
       → did s (evaluate n) b room ≡ record { answer = evaluated v; executions = take v.records after; after = lots; next = record { ready = ready; strategies = s.strategies; orders = os; accepted = s.accepted } }
   unfolding did
-  evaluated_so legs ready before after os lots v e some same end =
+  evaluated_so legs ready before after os lots v m e some numbered same ended =
       let f = steps legs n room (trading s.orders b) in
+      let end : Ended legs n f before after (trading os lots) v = subst (λ m. Ended legs m (steps legs m room (trading s.orders b)) before after (trading os lots) v) numbered ended in
       let xs = written_first f.executions before after v.records end.list end.records in
-      ready_so s b (evaluate_on s b room n (strategy_at s.strategies n)) e ∙ ap (evaluate_on s b room n) (sym some)
+      goes_on s b (evaluate_on s b room n (strategy_at s.strategies n)) (memory_test s) e ∙ ap (evaluate_on s b room n) (sym some)
       ∙ (λ i. record { answer = evaluated (record { records = sym end.records i; outcome = sym end.outcome i }); executions = sym xs i; after = sym end.lots i; next = record { ready = sym same i; strategies = s.strategies; orders = sym end.orders i; accepted = s.accepted } })
 
 -- ## place
@@ -141,11 +172,12 @@ module _ (s : State) (o : NewOrder) (b : Lots) (room : ℕ) where
   unfolding did
   place_refused why e = ap (λ r. unless r s b (place_on s b room o (strategy_at s.strategies o.strategy))) (sym e)
 
-  pub placed_so : (legs : List Leg) (ready : Bool) (entry : List Order) (before after : List Execution) (os : List Order) (lots : Lots) (p : Placed) → None ≡ place_refusal s o → Some legs ≡ strategy_at s.strategies o.strategy → ready ≡ s.ready → entry ≡ ranked_insert order_ahead (entered (s.accepted + 1) o) s.orders → Carried o (s.accepted + 1) legs (steps legs o.strategy room (trading entry b)) before after (trading os lots) p
+  pub placed_so : (legs : List Leg) (ready : Bool) (entry : List Order) (before after : List Execution) (os : List Order) (lots : Lots) (p : Placed) (m : ℕ) → None ≡ place_refusal s o → Some legs ≡ strategy_at s.strategies o.strategy → m ≡ o.strategy → ready ≡ s.ready → entry ≡ ranked_insert order_ahead (entered (s.accepted + 1) o) s.orders → Carried o (s.accepted + 1) legs m (steps legs m room (trading entry b)) before after (trading os lots) p
       → did s (place o) b room ≡ record { answer = placed p; executions = take p.records after; after = lots; next = record { ready = ready; strategies = s.strategies; orders = os; accepted = s.accepted + 1 } }
   unfolding did
-  placed_so legs ready entry before after os lots p e some same into end =
+  placed_so legs ready entry before after os lots p m e some numbered same into ended =
       let f = steps legs o.strategy room (trading entry b) in
+      let end : Carried o (s.accepted + 1) legs o.strategy f before after (trading os lots) p = subst (λ m. Carried o (s.accepted + 1) legs m (steps legs m room (trading entry b)) before after (trading os lots) p) numbered ended in
       let xs = written_first f.executions before after p.records end.list end.records in
       ap (λ r. unless r s b (place_on s b room o (strategy_at s.strategies o.strategy))) (sym e) ∙ ap (place_on s b room o) (sym some)
       ∙ ap (λ os. placed_with s o legs (steps legs o.strategy room (trading os b))) (sym into)

@@ -1,75 +1,51 @@
 -- Rows of strategies: the first so many, the same legs, one strategy more.
-use Rattle.std.proofs.Common.{◌≡◌, ℕ, zero, suc, ◌+◌, ◌<◌, ◌≤◌, Bool, true, false, ◌&&◌, ◌||◌, List, [], ◌∷◌, ◌++◌, length, get_or, take, drop, set, Some, None, Ok, Err, Result, sym, refl, ap, ◌∙◌, arith}
-use Rattle.std.specs.List.{slice_get}
+use Rattle.std.proofs.Common.{◌≡◌, ℕ, Bool, true, false, ◌&&◌, ◌||◌, eqb, List, [], ◌∷◌, Some, None, Ok, Err, Option, Bor, Result, sym, refl, ap, ◌∙◌}
+use Rattle.std.specs.Bool.{beq}
+use Rattle.std.specs.List.{slice_get, list_any}
 use Rattle.std.specs.Option.{option_map}
+use Rattle.std.specs.Slice.{IsGetResult}
+use Rattle.std.proofs.lemmas.Option.{slice_get-get_or, slice_get_past}
+use Rattle.std.specs.Cmp.Lexicographic.{pointwise}
 use Rattle.std.specs.Result.{result_ok}
-use Rattle.std.proofs.lemmas.List.{drop_more, drop_all, take_more_set}
 use Rattle.refusals.specs.declared.reason.Reason.{Reason}
 use Rattle.strategies.specs.declared.leg.Leg.{Leg}
 use Rattle.strategies.specs.declared.row.StrategyRow.{StrategyRow}
 use Rattle.strategies.specs.declared.strategy.Strategy.{Strategy}
-use Rattle.strategies.specs.Legs.{blank}
 use Rattle.strategies.specs.Rows.{row_legs}
 use Rattle.strategies.specs.Strategies.{strategy_legs, checked, legs_made}
-use Rattle.rules.specs.States.{legs_in, strategy_at, same_leg, same_legs, stands_among}
+use Rattle.rules.specs.States.{legs_in, strategy_at, same_mark, same_leg, same_legs, stands_among}
 
--- the first so many, taken once more
-front_again : {X : Type 0} (k : ℕ) (xs : List X) → take (length (take k xs)) xs ≡ take k xs
-front_again zero xs = refl
-front_again (suc k) [] = refl
-front_again (suc k) (x ∷ xs) = ap (λ ys. x ∷ ys) (front_again k xs)
+-- the derived equality of legs
+abbrev pub leg_eq : Leg → Leg → Bool
+leg_eq a b = eqb a.series b.series && (beq a.bought b.bought && eqb a.ratio b.ratio)
 
-pub front_within : {X : Type 0} (k : ℕ) (xs : List X) → length (take k xs) ≤ length xs
-front_within zero xs = omega arith
-front_within (suc k) [] = omega arith
-front_within (suc k) (x ∷ xs) = let more = front_within k xs in omega arith
-
--- one row more, behind the first so many
-pub front_push : {X : Type 0} (k n : ℕ) (xs : List X) (x : X) → n ≡ length (take k xs) → n < length xs → take (n + 1) (set xs n x) ≡ take k xs ++ (x ∷ [])
-front_push k n xs x is lt = take_more_set xs n x lt ∙ ap (λ ys. ys ++ (x ∷ [])) (ap (λ n. take n xs) is ∙ front_again k xs)
-
--- legs of other numbers are not the same
-pub same_never : (a b : List Leg) → (length a ≡ length b → ⊥) → false ≡ same_legs a b
-same_never [] [] h = absurd (h refl)
-same_never [] (y ∷ b) h = refl
-same_never (x ∷ a) [] h = refl
-same_never (x ∷ a) (y ∷ b) h = go (same_leg x y) (same_never a b (λ e. h (ap suc e)))
+same_leg_so : (a b : Leg) → leg_eq a b ≡ same_leg a b
+same_leg_so a b = ap (λ t. eqb a.series b.series && (t && eqb a.ratio b.ratio)) (mark a.bought b.bought)
   where
-    go : (t : Bool) → false ≡ same_legs a b → false ≡ (t && same_legs a b)
-    go true e = e
-    go false e = refl
+    mark : (s t : Bool) → beq s t ≡ same_mark s t
+    mark true true = refl
+    mark true false = refl
+    mark false true = refl
+    mark false false = refl
 
--- a walk over two lists of legs has passed i
-module _ (a b : List Leg) (i : ℕ) (so : same_legs (drop i a) (drop i b) ≡ same_legs a b) where
-  module _ (la : i < length a) (lb : i < length b) where
-    next : same_legs (drop i a) (drop i b) ≡ (same_leg (get_or a i blank) (get_or b i blank) && same_legs (drop (i + 1) a) (drop (i + 1) b))
-    next = ap (λ xs. same_legs xs (drop i b)) (drop_more a i blank la) ∙ ap (same_legs (get_or a i blank ∷ drop (i + 1) a)) (drop_more b i blank lb)
+same_legs_so : (xs ys : List Leg) → pointwise leg_eq xs ys ≡ same_legs xs ys
+same_legs_so [] [] = refl
+same_legs_so [] (y ∷ ys) = refl
+same_legs_so (x ∷ xs) [] = refl
+same_legs_so (x ∷ xs) (y ∷ ys) = ap (λ t. t && pointwise leg_eq xs ys) (same_leg_so x y) ∙ ap (λ t. same_leg x y && t) (same_legs_so xs ys)
 
-    pub same_more : true ≡ same_leg (get_or a i blank) (get_or b i blank) → same_legs (drop (i + 1) a) (drop (i + 1) b) ≡ same_legs a b
-    same_more t = sym (sym so ∙ next ∙ ap (λ t. t && same_legs (drop (i + 1) a) (drop (i + 1) b)) (sym t))
+-- some row has the legs
+pub stands_so : (legs : List Leg) (rows : List StrategyRow) → list_any (λ row. pointwise leg_eq (row_legs row) legs) rows ≡ stands_among legs rows
+unfolding stands_among
+stands_so legs [] = refl
+stands_so legs (row ∷ rows) =
+    ap (λ t. t || list_any (λ row. pointwise leg_eq (row_legs row) legs) rows) (same_legs_so (row_legs row) legs)
+    ∙ ap (λ t. same_legs (row_legs row) legs || t) (stands_so legs rows)
 
-    pub same_not : false ≡ same_leg (get_or a i blank) (get_or b i blank) → false ≡ same_legs a b
-    same_not t = sym (sym so ∙ next ∙ ap (λ t. t && same_legs (drop (i + 1) a) (drop (i + 1) b)) (sym t))
-
-  pub same_all : length a ≤ i → length b ≤ i → true ≡ same_legs a b
-  same_all ga gb = sym (ap (λ xs. same_legs xs (drop i b)) (drop_all i a ga) ∙ ap (same_legs []) (drop_all i b gb)) ∙ so
-
--- a walk over the rows has passed i
-module _ (legs : List Leg) (rows : List StrategyRow) (i : ℕ) (so : stands_among legs (drop i rows) ≡ stands_among legs rows) where
-  module _ (d : StrategyRow) (lt : i < length rows) where
-    row_next : stands_among legs (drop i rows) ≡ (same_legs (row_legs (get_or rows i d)) legs || stands_among legs (drop (i + 1) rows))
-    unfolding stands_among
-    row_next = ap (stands_among legs) (drop_more rows i d lt)
-
-    pub stands_here : true ≡ same_legs (row_legs (get_or rows i d)) legs → true ≡ stands_among legs rows
-    stands_here t = sym (sym so ∙ row_next ∙ ap (λ t. t || stands_among legs (drop (i + 1) rows)) (sym t))
-
-    pub stands_more : false ≡ same_legs (row_legs (get_or rows i d)) legs → stands_among legs (drop (i + 1) rows) ≡ stands_among legs rows
-    stands_more t = sym (sym so ∙ row_next ∙ ap (λ t. t || stands_among legs (drop (i + 1) rows)) (sym t))
-
-  pub stands_none : length rows ≤ i → false ≡ stands_among legs rows
-  unfolding stands_among
-  stands_none ge = sym (sym so ∙ ap (stands_among legs) (drop_all i rows ge))
+-- what a slice lends at a place
+pub row_at : (rows : List StrategyRow) (n : ℕ) (r : Option (Bor StrategyRow)) → IsGetResult rows n n r → option_map (λ x. x.now) r ≡ slice_get rows n
+row_at rows n None h = sym (slice_get_past rows n h.3)
+row_at rows n (Some x) h = ap Some (h.3.1 x.now) ∙ sym (slice_get-get_or rows n x.now h.3.0)
 
 -- the strategy of a number
 module _ (rows : List StrategyRow) (n : ℕ) where

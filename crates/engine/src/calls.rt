@@ -34,11 +34,8 @@ impl<'a> Engine<'a> {
     pub(crate) fn do_define(&mut self, count: u32, legs: &[Leg; 4]) -> Result<u32, Refusal>
         ensures equation { (b : Lots) (k : ℕ) → Happens (model self.old) (apart (define (record { count = count; legs = legs.now })) b k (answer_define result)) (model self.new) }
     {
-        let legs = *legs;
-        let row = StrategyRow { count, legs };
-        if let Some(why) = self.define_refusal(&row) {
-            return Err(why);
-        }
+        let row = StrategyRow { count, legs: *legs };
+        self.check_define(&row)?;
         let number = self.table.len() as u32;
         self.table.push(row);
         Ok(number)
@@ -48,12 +45,11 @@ impl<'a> Engine<'a> {
     pub(crate) fn do_cancel(&mut self, number: u32) -> Result<u32, Refusal>
         ensures equation { (b : Lots) (k : ℕ) → Happens (model self.old) (apart (cancel number) b k (answer_cancel result)) (model self.new) }
     {
-        if !self.is_ready() {
-            return Err(Refusal::at(Station::Opening, Reason::Memory));
-        }
-        let Some(order) = order_with(&self.orders, number) else {
-            return Err(Refusal::at(Station::Cancel, Reason::NotResting));
-        };
+        self.check_ready()?;
+        let order = order_with(&self.orders, number).ok_or(Refusal::at(
+            Station::Cancel,
+            Reason::NotResting,
+        ))?;
         drop_order(&mut self.orders, number);
         Ok(order.quantity)
     }
@@ -69,14 +65,12 @@ impl<'a> Engine<'a> {
         ensures list { executions.new ≡ written_over (take (records_told (answer_evaluate result)) executions.new) executions.old }
         ensures frame { B.SimpleBook.frame book.new ≡ B.SimpleBook.frame book.old }
     {
-        if !self.is_ready() {
-            return Err(Refusal::at(Station::Opening, Reason::Memory));
-        }
-        let Some(legs) = self.table.strategy(strategy) else {
-            return Err(Refusal::at(Station::Evaluate, Reason::Strategy));
-        };
-        let done = evaluate_with(&mut self.orders, book, executions, &legs, strategy);
-        Ok(done)
+        self.check_ready()?;
+        let strategy = self
+            .table
+            .strategy(strategy)
+            .ok_or(Refusal::at(Station::Evaluate, Reason::Strategy))?;
+        Ok(evaluate_with(&mut self.orders, book, executions, &strategy))
     }
 
     // Accepts an order, and steps its strategy.
@@ -90,16 +84,10 @@ impl<'a> Engine<'a> {
         ensures list { executions.new ≡ written_over (take (records_told (answer_place result)) executions.new) executions.old }
         ensures frame { B.SimpleBook.frame book.new ≡ B.SimpleBook.frame book.old }
     {
-        if let Some(why) = self.place_refusal(&order) {
-            return Err(why);
-        }
-        let Some(legs) = self.table.strategy(order.strategy) else {
-            return Err(Refusal::at(Station::Place, Reason::Strategy));
-        };
+        let strategy = self.check_place(&order)?;
         let number = self.accepted + 1;
         let _ = self.orders.insert(entered(number, order));
         self.accepted = number;
-        let done = place_with(&mut self.orders, book, executions, &legs, order, number);
-        Ok(done)
+        Ok(place_with(&mut self.orders, book, executions, &strategy, order, number))
     }
 }

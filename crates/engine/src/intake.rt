@@ -9,7 +9,7 @@ ghost use Rattle.engine.specs.Messages.{NarrowOrder, NarrowLeg, NarrowLegs, Narr
 use crate::held::Engine;
 use contents::{LegFields, LegSide, Message, PlaceFields, TimeInForce};
 use messages::read;
-use refusals::{Reason, Refusal, Station};
+use refusals::Refusal;
 use rules::{Execution, Intake, IntakeFault, NewOrder};
 use simple::SimpleBook;
 use strategies::Leg;
@@ -98,9 +98,7 @@ impl Engine<'_> {
         ensures list { executions.new ≡ written_over (take (records_told (answer_intake result)) executions.new) executions.old }
         ensures frame { B.SimpleBook.frame book.new ≡ B.SimpleBook.frame book.old }
     {
-        if !self.is_ready() {
-            return Err(IntakeFault::Refused(Refusal::at(Station::Opening, Reason::Memory)));
-        }
+        self.check_ready()?;
         let received = read(message)?;
         let done = self.act(book, executions, received.message)?;
         Ok(done)

@@ -1,13 +1,20 @@
 // Why a call is refused: its tests in order, the first that fails.
-ghost use Rattle.std.specs.Prelude.{◌≡◌, ◌&&◌, nat_le};
+ghost use Rattle.std.specs.Prelude.{◌≡◌, ◌&&◌, not, nat_le, Some, None, MatchResult};
+ghost use Rattle.std.specs.Result.{result_err};
+ghost use Rattle.refusals.specs.declared.reason.Reason.TheVariants.{Memory};
+ghost use Rattle.refusals.specs.declared.station.Station.TheVariants.{Opening};
+ghost use Rattle.refusals.specs.Refusals.{refused_at};
+ghost use Rattle.strategies.specs.Strategies.{strategy_legs};
+ghost use Rattle.rules.specs.States.{strategy_at};
 ghost use Rattle.rules.specs.Limits.{most_quantity};
-ghost use Rattle.rules.specs.Calls.{limit_lawful, place_refusal, define_refusal};
+ghost use Rattle.rules.specs.Calls.{test, limit_lawful, place_refusal, define_refusal};
 ghost use Rattle.engine.specs.Model.{model};
 
 use crate::held::Engine;
 use crate::limits::{MOST_ACCEPTED, MOST_QUANTITY, ORDER_PLACES, STRATEGY_PLACES};
 use refusals::{Reason, Refusal, Station};
 use rules::{FURTHEST_LIMIT, NewOrder};
+use stepping::Defined;
 use strategies::StrategyRow;
 
 // Whether a limit lies within the furthest, or is 0 for a market order.
@@ -17,7 +24,7 @@ fn limit_lawful(market: bool, limit: i64) -> bool
     if market {
         limit == 0
     } else {
-        -FURTHEST_LIMIT <= limit && limit <= FURTHEST_LIMIT
+        (-FURTHEST_LIMIT..=FURTHEST_LIMIT).contains(&limit)
     }
 }
 
@@ -25,7 +32,7 @@ fn limit_lawful(market: bool, limit: i64) -> bool
 fn quantity_lawful(quantity: u32) -> bool
     ensures { result ≡ (nat_le 1 quantity && nat_le quantity most_quantity) }
 {
-    1 <= quantity && quantity <= MOST_QUANTITY
+    (1..=MOST_QUANTITY).contains(&quantity)
 }
 
 impl<'a> Engine<'a> {
@@ -36,47 +43,55 @@ impl<'a> Engine<'a> {
         self.orders.capacity() == ORDER_PLACES
     }
 
-    // Why a strategy is not defined.
-    pub(crate) fn define_refusal(&self, row: &StrategyRow) -> Option<Refusal>
-        ensures { result ≡ define_refusal (model self.now) row.now }
+    // Refuses every call on other memory.
+    pub(crate) fn check_ready(&self) -> Result<(), Refusal>
+        ensures { result_err result ≡ test (not (model self.now).ready) (refused_at Opening Memory) None }
     {
-        if !self.is_ready() {
-            return Some(Refusal::at(Station::Opening, Reason::Memory));
+        if self.is_ready() {
+            Ok(())
+        } else {
+            Err(Refusal::at(Station::Opening, Reason::Memory))
         }
-        if let Err(why) = row.check() {
-            return Some(Refusal::at(Station::Define, why));
-        }
-        if self.table.stands(row) {
-            return Some(Refusal::at(Station::Define, Reason::SameLegs));
-        }
-        if self.table.len() >= STRATEGY_PLACES {
-            return Some(Refusal::at(Station::Define, Reason::TableFull));
-        }
-        None
     }
 
-    // Why an order is not accepted.
-    pub(crate) fn place_refusal(&self, order: &NewOrder) -> Option<Refusal>
-        ensures { result ≡ place_refusal (model self.now) order.now }
+    // Why a strategy is not defined, if it is not.
+    pub(crate) fn check_define(&self, row: &StrategyRow) -> Result<(), Refusal>
+        ensures { result_err result ≡ define_refusal (model self.now) row.now }
     {
-        if !self.is_ready() {
-            return Some(Refusal::at(Station::Opening, Reason::Memory));
+        self.check_ready()?;
+        row.check()
+            .map_err(|why| Refusal::at(Station::Define, why))?;
+        if self.table.stands(row) {
+            return Err(Refusal::at(Station::Define, Reason::SameLegs));
         }
-        if self.table.strategy(order.strategy).is_none() {
-            return Some(Refusal::at(Station::Place, Reason::Strategy));
+        if self.table.len() >= STRATEGY_PLACES {
+            return Err(Refusal::at(Station::Define, Reason::TableFull));
         }
+        Ok(())
+    }
+
+    // The strategy of an order, or why the order is not accepted.
+    pub(crate) fn check_place(&self, order: &NewOrder) -> Result<Defined, Refusal>
+        ensures refusal { result_err result ≡ place_refusal (model self.now) order.now }
+        ensures strategy { MatchResult result (λ x. (Some (strategy_legs x.strategy) ≡ strategy_at (model self.now).strategies order.now.strategy) × (x.number ≡ order.now.strategy)) (λ _. Unit {0}) }
+    {
+        self.check_ready()?;
+        let strategy = self
+            .table
+            .strategy(order.strategy)
+            .ok_or(Refusal::at(Station::Place, Reason::Strategy))?;
         if !quantity_lawful(order.quantity) {
-            return Some(Refusal::at(Station::Place, Reason::Quantity));
+            return Err(Refusal::at(Station::Place, Reason::Quantity));
         }
         if !limit_lawful(order.market, order.limit) {
-            return Some(Refusal::at(Station::Place, Reason::Limit));
+            return Err(Refusal::at(Station::Place, Reason::Limit));
         }
         if self.orders.len() >= ORDER_PLACES {
-            return Some(Refusal::at(Station::Place, Reason::BookFull));
+            return Err(Refusal::at(Station::Place, Reason::BookFull));
         }
         if self.accepted >= MOST_ACCEPTED {
-            return Some(Refusal::at(Station::Place, Reason::NumbersSpent));
+            return Err(Refusal::at(Station::Place, Reason::NumbersSpent));
         }
-        None
+        Ok(strategy)
     }
 }

@@ -25,14 +25,12 @@ impl<'a> Engine<'a> {
         ensures lots { B.SimpleBook.lots book.new ≡ B.SimpleBook.lots book.old }
         ensures frame { B.SimpleBook.frame book.new ≡ B.SimpleBook.frame book.old }
     {
-        if !self.is_ready() {
-            return Err(Refusal::at(Station::Opening, Reason::Memory));
-        }
-        let Some(legs) = self.table.strategy(strategy) else {
-            return Err(Refusal::at(Station::Net, Reason::Strategy));
-        };
-        let net = net_market(book, &legs);
-        Ok(net)
+        self.check_ready()?;
+        let defined = self
+            .table
+            .strategy(strategy)
+            .ok_or(Refusal::at(Station::Net, Reason::Strategy))?;
+        Ok(net_market(book, &defined.strategy))
     }
 
     // The markets of a strategy, or nothing unless it is defined and free.
@@ -41,8 +39,8 @@ impl<'a> Engine<'a> {
         ensures lots { B.SimpleBook.lots book.new ≡ B.SimpleBook.lots book.old }
         ensures frame { B.SimpleBook.frame book.new ≡ B.SimpleBook.frame book.old }
     {
-        let legs = self.table.strategy(strategy)?;
-        market_of(book, &legs)
+        let defined = self.table.strategy(strategy)?;
+        market_of(book, &defined.strategy)
     }
 
     // The price that an order shows, or nothing.
@@ -51,15 +49,14 @@ impl<'a> Engine<'a> {
         ensures lots { B.SimpleBook.lots book.new ≡ B.SimpleBook.lots book.old }
         ensures frame { B.SimpleBook.frame book.new ≡ B.SimpleBook.frame book.old }
     {
-        if !self.is_ready() {
-            return Err(Refusal::at(Station::Opening, Reason::Memory));
-        }
-        let Some(order) = order_with(&self.orders, number) else {
-            return Err(Refusal::at(Station::Display, Reason::NotResting));
-        };
+        self.check_ready()?;
+        let order = order_with(&self.orders, number).ok_or(Refusal::at(
+            Station::Display,
+            Reason::NotResting,
+        ))?;
         let market = self.market_in(book, order.strategy);
         let limit = order.working_limit();
-        Ok(displayed_price(market, order.buy, order.market, limit))
+        Ok(displayed_price(market, order.buy, order.limit.is_none(), limit))
     }
 
     // The order at a place, in rank; nothing on memory of other places.

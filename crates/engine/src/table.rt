@@ -1,13 +1,14 @@
 // The strategies that are defined, by number.
 ghost use Rattle.std.specs.Prelude.{◌≡◌, ◌+◌, ◌<◌, ◌≤◌, [], ◌∷◌, ◌++◌, length, take};
-ghost use Rattle.std.specs.List.{slice_get};
-ghost use Rattle.std.specs.Option.{option_map};
+ghost use Rattle.std.specs.Option.{option_map, ForSome};
 ghost use Rattle.strategies.specs.Rows.{row_legs};
 ghost use Rattle.strategies.specs.Strategies.{strategy_legs};
-ghost use Rattle.rules.specs.States.{strategy_at, same_leg, same_legs, stands_among};
+ghost use Rattle.rules.specs.Limits.{strategy_places};
+ghost use Rattle.rules.specs.States.{strategy_at, stands_among};
 ghost use Rattle.engine.specs.Table.{rows_of};
 
 use crate::limits::STRATEGY_PLACES;
+use stepping::Defined;
 use strategies::{Leg, Strategy, StrategyRow};
 
 // What a place holds that no strategy has: a lawful row.
@@ -38,43 +39,18 @@ const UNUSED: StrategyRow = StrategyRow {
 };
 
 // Rows of strategies: the first `count` of its places, or all if there are fewer.
+// An array with a count, and no Vec: the engine has fixed memory.
 #[derive(Drop)]
 pub(crate) struct StrategyTable {
     rows: [StrategyRow; STRATEGY_PLACES],
     count: usize,
 }
 
-// Whether two legs are the same.
-fn same_leg(a: Leg, b: Leg) -> bool
-    ensures { result ≡ same_leg a b }
-{
-    a.series == b.series && a.bought == b.bought && a.ratio == b.ratio
-}
-
-// Whether there are as many legs, each the same.
-fn same_legs(a: &[Leg], b: &[Leg]) -> bool
-    ensures { result ≡ same_legs a.now b.now }
-{
-    if a.len() != b.len() {
-        return false;
-    }
-    for (i, leg) in a.iter().enumerate() {
-        if !same_leg(*leg, b[i]) {
-            return false;
-        }
-    }
-    true
-}
-
 // The first so many, or all if there are fewer.
 fn front<T>(all: &[T], count: usize) -> &[T]
     ensures { result.now ≡ take count all.now }
 {
-    if count < all.len() {
-        &all[0..count]
-    } else {
-        all
-    }
+    &all[..count.min(all.len())]
 }
 
 // The legs that a row counts.
@@ -98,7 +74,7 @@ impl StrategyTable {
     // How many strategies are defined.
     pub(crate) fn len(&self) -> usize
         ensures count { result ≡ length (rows_of self.now) }
-        ensures within { result ≤ 64 }
+        ensures within { result ≤ strategy_places }
     {
         self.defined().len()
     }
@@ -106,43 +82,33 @@ impl StrategyTable {
     // The rows of the strategies that are defined.
     fn defined(&self) -> &[StrategyRow]
         ensures value { result.now ≡ rows_of self.now }
-        ensures within { length result.now ≤ 64 }
+        ensures within { length result.now ≤ strategy_places }
     {
         front(&self.rows, self.count)
     }
 
-    // The row of a number.
-    fn row(&self, number: usize) -> Option<StrategyRow>
-        ensures { result ≡ slice_get (rows_of self.now) number }
-    {
-        self.defined().get(number).copied()
-    }
-
     // The strategy of a number.
-    pub(crate) fn strategy(&self, number: u32) -> Option<Strategy>
-        ensures { option_map strategy_legs result ≡ strategy_at (rows_of self.now) number }
+    pub(crate) fn strategy(&self, number: u32) -> Option<Defined>
+        ensures legs { option_map (λ x. strategy_legs x.strategy) result ≡ strategy_at (rows_of self.now) number }
+        ensures number { ForSome result (λ x. x.number ≡ number) }
     {
-        let row = self.row(number as usize)?;
-        Strategy::try_from(row).ok()
+        let row = self.defined().get(number as usize)?;
+        let strategy = Strategy::try_from(*row).ok()?;
+        Some(Defined { number, strategy })
     }
 
     // Whether a strategy of the row's legs is defined.
     pub(crate) fn stands(&self, row: &StrategyRow) -> bool
         ensures { result ≡ stands_among (row_legs row.now) (rows_of self.now) }
     {
-        let rows = self.defined();
-        let legs = legs_of(row);
-        for other in rows {
-            if same_legs(legs_of(other), legs) {
-                return true;
-            }
-        }
-        false
+        self.defined()
+            .iter()
+            .any(|other| legs_of(other) == legs_of(row))
     }
 
     // Defines one strategy more.
     pub(crate) fn push(&mut self, row: StrategyRow)
-        requires { length (rows_of self.old) < 64 }
+        requires { length (rows_of self.old) < strategy_places }
         ensures { rows_of self.new ≡ rows_of self.old ++ (row ∷ []) }
     {
         let n = self.len();

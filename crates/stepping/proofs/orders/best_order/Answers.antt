@@ -3,7 +3,7 @@ use Rattle.std.proofs.Common.{◌∙◌, rules}
 use Rattle.std.proofs.lemmas.Iterator.{YieldsList-from_slice}
 use Rattle.std.proofs.lemmas.Iterator.Search.{find_from_yields_List}
 use Rattle.ranked.specs.Held.{items}
-use Rattle.rules.specs.Orders.{is_of, best_order}
+use Rattle.rules.specs.Orders.{is_of}
 use Rattle.stepping.proofs.Bests.{best_found}
 use Rattle.stepping.proofs.orders.best_order.Goals as goal
 

@@ -1,26 +1,16 @@
--- `stands`: no row that was passed has the legs.
-use Rattle.std.proofs.Common.{◌≡◌, Bool, true, false, List, ap, ◌∙◌}
-use Rattle.strategies.specs.declared.leg.Leg.{Leg}
-use Rattle.strategies.specs.declared.row.StrategyRow.{StrategyRow}
-use Rattle.rules.specs.States.{same_legs, stands_among}
-use Rattle.engine.proofs.Tables.{stands_here, stands_more, stands_none}
+-- `stands`: whether a row has the legs.
+use Rattle.std.proofs.Common.{◌∙◌, rules}
+use Rattle.std.specs.Cmp.Lexicographic.{pointwise}
+use Rattle.std.proofs.lemmas.Iterator.{YieldsList-from_slice}
+use Rattle.std.proofs.lemmas.Iterator.Search.{any_from_yields_List}
+use Rattle.strategies.specs.Rows.{row_legs}
+use Rattle.engine.specs.Table.{rows_of}
+use Rattle.engine.proofs.Tables.{leg_eq, stands_so}
 use Rattle.engine.proofs.table.StrategyTable.stands.Goals as goal
-
--- what was found of the legs and rows that were read is so of the row and the table
-told : (r : Bool) (legs legs' : List Leg) (rows rows' : List StrategyRow) → legs ≡ legs' → rows ≡ rows' → r ≡ stands_among legs rows → r ≡ stands_among legs' rows'
-told r legs legs' rows rows' l k e = e ∙ ap (λ legs. stands_among legs rows) l ∙ ap (stands_among legs') k
-
-pub returns-then-same_legs : goal.returns-then-same_legs
-returns-then-same_legs c =
-    let legs = c.legs_of-legs.result.now in
-    told true legs _ c.defined-rows.result.now _ c.legs_of-legs.ensures c.defined-rows.ensures.value (stands_here legs c.defined-rows.result.now c.loop-other.other-index c.loop-other.invariant _ c.loop-other-test.true (c.if-same_legs.ensures ∙ ap (λ xs. same_legs xs legs) c.legs_of.ensures))
-
-pub loop-other-preserved : goal.loop-other-preserved
-loop-other-preserved c =
-    let legs = c.legs_of-legs.result.now in
-    stands_more legs c.defined-rows.result.now c.loop-other.other-index c.loop-other.invariant _ c.loop-other-test.true (c.if-same_legs.ensures ∙ ap (λ xs. same_legs xs legs) c.legs_of.ensures)
 
 pub returns : goal.returns
 returns c =
-    let legs = c.legs_of-legs.result.now in
-    told false legs _ c.defined-rows.result.now _ c.legs_of-legs.ensures c.defined-rows.ensures.value (stands_none legs c.defined-rows.result.now c.loop-other.other-index c.loop-other.invariant c.loop-other-test.false)
+    let legs = row_legs c.args.row.now in
+    let rows = rows_of c.args.self.now in
+    any_from_yields_List (λ row. pointwise leg_eq (row_legs row) legs) _ _ c.any.result c.any.ensures.ran (YieldsList-from_slice rows (c.iter.ensures.rest ∙ c.defined.ensures.value)) (λ x b q k. search rules)
+    ∙ stands_so legs rows

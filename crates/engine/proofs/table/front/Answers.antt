@@ -1,7 +1,0 @@
--- `front`: where there are fewer, all.
-use Rattle.std.proofs.Common.{sym}
-use Rattle.std.proofs.lemmas.List.{take_all}
-use Rattle.engine.proofs.table.front.Goals as goal
-
-pub returns-else-count-all : goal.returns-else-count-all
-returns-else-count-all g c = sym (take_all c.args.count c.args.all.now c.if-count-all.false)
