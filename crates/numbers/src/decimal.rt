@@ -1,10 +1,11 @@
 // Numbers in decimal, unsigned and signed, read from a word and written to a text.
-ghost use Rattle.std.specs.Prelude.{◌≡◌, ◌+◌, ◌-◌, ◌*◌, ◌^◌, ◌<◌, ◌++◌, pos, neg_ℤ, is_ok, if◌then◌else◌, Some, string_bytes, decimal};
+ghost use Rattle.std.specs.Prelude.{◌≡◌, ℕ, ◌+◌, ◌-◌, ◌*◌, ◌^◌, ◌<◌, ◌++◌, pos, neg_ℤ, is_ok, if◌then◌else◌, List, Some, string_bytes, decimal};
 ghost use Rattle.std.specs.Option.{SomeIff};
 ghost use Rattle.std.specs.Fmt.{signed_decimal};
 ghost use Rattle.numbers.specs.Numbers.{Digit, value, NumberBelow, number_in, SignedNumber, signed_value, signed_in};
 
 use std::alloc::AllocError;
+use std::fmt::Display;
 
 // The number `n` with the digit `b` written behind it, if `b` is a digit and the number still fits.
 fn with_digit(n: u64, b: u8) -> Option<u64>
@@ -42,21 +43,26 @@ pub fn signed_number(word: &[u8]) -> Option<i64>
     }
 }
 
+// Adds what a value shows, or nothing where memory fails.
+fn push_shown<T: Display>(out: &mut String, shown: &T) -> Result<(), AllocError>
+    ensures { (text : List ℕ) → T.output shown.now ≡ Some text → string_bytes out.new ≡ (if is_ok result then string_bytes out.old ++ text else string_bytes out.old) }
+{
+    let text = shown.to_string(*out.allocator())?;
+    out.push_str(text.as_str())
+}
+
 // Adds a number in decimal, or nothing where memory fails. Read again it is the same number.
 pub fn push_number(out: &mut String, n: u64) -> Result<(), AllocError>
     ensures written { string_bytes out.new ≡ (if is_ok result then string_bytes out.old ++ decimal n else string_bytes out.old) }
     ensures read_again { number_in (decimal n) ≡ Some n }
 {
-    let digits = n.to_string(*out.allocator())?;
-    out.push_str(digits.as_str())
+    push_shown::<u64>(out, &n)
 }
 
 // Adds a signed number in decimal, or nothing where memory fails. Read again it is the same number.
-// Not one generic function with the other: `read_again` would be a law, and all of proofs/ would have to stand in specs/.
 pub fn push_signed(out: &mut String, n: i64) -> Result<(), AllocError>
     ensures written { string_bytes out.new ≡ (if is_ok result then string_bytes out.old ++ signed_decimal n else string_bytes out.old) }
     ensures read_again { signed_in (signed_decimal n) ≡ Some n }
 {
-    let written = n.to_string(*out.allocator())?;
-    out.push_str(written.as_str())
+    push_shown::<i64>(out, &n)
 }
