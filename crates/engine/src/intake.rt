@@ -49,12 +49,7 @@ fn legs_of(fields: [LegFields; 4]) -> [Leg; 4]
     requires { NarrowLegs fields }
     ensures { result ≡ map leg_said fields }
 {
-    [
-        leg_of(fields[0]),
-        leg_of(fields[1]),
-        leg_of(fields[2]),
-        leg_of(fields[3]),
-    ]
+    fields.map(leg_of)
 }
 
 impl Engine<'_> {
@@ -102,8 +97,7 @@ impl Engine<'_> {
             return Err(IntakeFault::Refused(Refusal::at(Station::Opening, Reason::Memory)));
         }
         let received = read(message)?;
-        let done = self.act(book, executions, received.message)?;
-        Ok(done)
+        Ok(self.act(book, executions, received.message)?)
     }
 
     // Takes a message in: its call counts like a direct one, and a message that cannot be read changes nothing.
