@@ -29,7 +29,7 @@ fn order_of(fields: PlaceFields) -> NewOrder
     }
 }
 
-// The leg that the fields of a message say.
+// The leg that the fields of a message say. No `From`: both types are other crates', and the numbers have to fit.
 fn leg_of(fields: LegFields) -> Leg
     requires { NarrowLeg fields }
     ensures { result ≡ leg_said fields }
