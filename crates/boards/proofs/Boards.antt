@@ -1,46 +1,67 @@
 -- What a board shows once the quotes of a side are replaced, and when it opens.
-use Rattle.std.proofs.Common.{◌≡◌, ℕ, ◌<◌, ◌≤◌, true, false, cond, eqb, ltb, List, [], length, get_or, set, replicate, Ok, refl, ap, ◌∙◌, subst, arith}
+use Rattle.std.proofs.Common.{◌≡◌, ℕ, ◌<◌, ◌≤◌, true, false, cond, eqb, ltb, [], length, get_or, set, replicate, Ok, refl, sym, ap, ◌∙◌, inl, inr, subst, arith}
 use mathlib.Core.Path.{fun_ext}
-use Rattle.std.proofs.lemmas.Bool.{cond-true, eqb-false, ltb-false, or_parts}
+use Rattle.std.proofs.lemmas.Bool.{cases_Bool, cond-true, eqb-true, eqb-false, ltb-false, le-ltb, or_parts}
 use Rattle.std.proofs.lemmas.List.{get_or-set_same, get_or-set_other, get_or-replicate}
 use Rattle.std.proofs.lemmas.Bool.Decides.{nat_tests}
 use Rattle.simple.specs.declared.lot.Side.{Side}
 use Rattle.simple.specs.declared.lot.Side.TheVariants.{Bid, Offer}
 use Rattle.boards.specs.declared.quote.Quotes.{Quotes}
+use Rattle.boards.specs.declared.quote.Sides.{Sides}
 use Rattle.boards.specs.declared.board.QuoteBoard.{QuoteBoard}
 use Rattle.boards.specs.Limits.{last_quoted, quoted_count}
 use Rattle.simple.specs.Lots.{Lots, with_side}
-use Rattle.boards.specs.Board.{side_lots, row_of, quotes_at, board_lots, no_quotes}
+use Rattle.boards.specs.Board.{side_lots, quotes_of, quotes_at, board_lots, no_quotes, no_sides}
 use Rattle.simple.specs.Best.{best_of, best_size}
 use Rattle.simple.specs.Take.{take_answer}
 use Rattle.simple.specs.TakeMoved.{passed, take_within}
 
 -- the board with the two quotes of one side replaced
 abbrev pub with_quotes : QuoteBoard → ℕ → Side → Quotes → QuoteBoard
-with_quotes b s Bid q = record { bids = set b.bids s q; offers = b.offers }
-with_quotes b s Offer q = record { bids = b.bids; offers = set b.offers s q }
+with_quotes b s Bid q = record { series = set b.series s (record { bids = q; offers = (get_or b.series s no_sides).offers }) }
+with_quotes b s Offer q = record { series = set b.series s (record { bids = (get_or b.series s no_sides).bids; offers = q }) }
 
 -- it shows that side anew, and every other as it was
-module _ (b : QuoteBoard) (s : ℕ) (q : Quotes) (low : s ≤ last_quoted) where
-  row_set : (row : List Quotes) → s < length row → (s' : ℕ) → get_or (set row s q) s' no_quotes ≡ cond (eqb s' s) q (get_or row s' no_quotes)
-  row_set row long s' = grind (arith, nat_tests, get_or-set_same, get_or-set_other)
+module _ (b : QuoteBoard) (s : ℕ) (q : Quotes) (low : s ≤ last_quoted) (long : s < length b.series) where
+  sides_set : (t : Sides) (s' : ℕ) → get_or (set b.series s t) s' no_sides ≡ cond (eqb s' s) t (get_or b.series s' no_sides)
+  sides_set t s' = grind (arith, nat_tests, get_or-set_same, get_or-set_other)
 
-  pub board_put : (d : Side) → s < length (row_of b d) → board_lots (with_quotes b s d q) ≡ with_side (board_lots b) s d (side_lots d q)
-  board_put d long = fun_ext (λ s'. fun_ext (λ d'. at d long s' d'))
+  -- a side as the board shows it
+  side_set : (t : Sides) (s' : ℕ) (d' : Side) → board_lots (record { series = set b.series s t }) s' d' ≡ cond (eqb s' s) (side_lots d' (quotes_of t d')) (board_lots b s' d')
+  side_set t s' d' =
+      elim (cases_Bool (eqb s' s)) [
+        | inl e ↦
+            let same : s' ≡ s = eqb-true s' s e in
+            let carried : ltb last_quoted s' ≡ false = le-ltb last_quoted s' (omega arith) in
+            ap (λ u. cond (ltb last_quoted s') [] (side_lots d' (quotes_of u d'))) (sides_set t s') ∙ rw (carried, e) refl
+        | inr e ↦ ap (λ u. cond (ltb last_quoted s') [] (side_lots d' (quotes_of u d'))) (sides_set t s') ∙ rw e refl
+      ]
+
+  -- the other side of the series is as it was
+  same_here : (s' : ℕ) (d' : Side) → eqb s' s ≡ true → side_lots d' (quotes_of (get_or b.series s no_sides) d') ≡ board_lots b s' d'
+  same_here s' d' e =
+      let same : s' ≡ s = eqb-true s' s e in
+      let carried : ltb last_quoted s' ≡ false = le-ltb last_quoted s' (omega arith) in
+      ap (λ k. side_lots d' (quotes_of (get_or b.series k no_sides) d')) (sym same) ∙ rw carried refl
+
+  pub board_put : (d : Side) → board_lots (with_quotes b s d q) ≡ with_side (board_lots b) s d (side_lots d q)
+  board_put d = fun_ext (λ s'. fun_ext (λ d'. at d s' d'))
     where
-      at : (d : Side) → s < length (row_of b d) → (s' : ℕ) (d' : Side) → board_lots (with_quotes b s d q) s' d' ≡ with_side (board_lots b) s d (side_lots d q) s' d'
-      at Bid long s' Bid = grind (arith, nat_tests, row_set b.bids long s')
-      at Bid long s' Offer = grind (arith, nat_tests)
-      at Offer long s' Bid = grind (arith, nat_tests)
-      at Offer long s' Offer = grind (arith, nat_tests, row_set b.offers long s')
-
-none_lots : (d : Side) (q : Quotes) → (q.maker.size ≡ 0) × (q.customer.size ≡ 0) → side_lots d q ≡ []
-none_lots Bid q h = grind (arith, nat_tests)
-none_lots Offer q h = grind (arith, nat_tests)
+      at : (d : Side) (s' : ℕ) (d' : Side) → board_lots (with_quotes b s d q) s' d' ≡ with_side (board_lots b) s d (side_lots d q) s' d'
+      at Bid s' Bid = side_set _ s' Bid ∙ elim (cases_Bool (eqb s' s)) [ inl e ↦ simp e | inr e ↦ simp e ]
+      at Bid s' Offer = side_set _ s' Offer ∙ elim (cases_Bool (eqb s' s)) [ inl e ↦ simp e (same_here s' Offer e) | inr e ↦ simp e ]
+      at Offer s' Bid = side_set _ s' Bid ∙ elim (cases_Bool (eqb s' s)) [ inl e ↦ simp e (same_here s' Bid e) | inr e ↦ simp e ]
+      at Offer s' Offer = side_set _ s' Offer ∙ elim (cases_Bool (eqb s' s)) [ inl e ↦ simp e | inr e ↦ simp e ]
 
 -- a row of sides without quotes shows no lot
-pub row_none : (q : Quotes) → (q.maker.size ≡ 0) × (q.customer.size ≡ 0) → (s : ℕ) (d : Side) → s ≤ last_quoted → side_lots d (get_or (replicate quoted_count q) s no_quotes) ≡ []
-row_none q h s d low = ap (side_lots d) (get_or-replicate quoted_count s q no_quotes (omega arith)) ∙ none_lots d q h
+pub row_none : (p q : Quotes) → p ≡ no_quotes → q ≡ no_quotes → (s : ℕ) (d : Side) → s ≤ last_quoted → side_lots d (quotes_of (get_or (replicate quoted_count (record { bids = p; offers = q })) s no_sides) d) ≡ []
+row_none p q e f s d low =
+    let here : get_or (replicate quoted_count (record { bids = p; offers = q })) s no_sides ≡ record { bids = p; offers = q } = get_or-replicate quoted_count s _ no_sides (omega arith) in
+    ap (λ t. side_lots d (quotes_of t d)) here ∙ ap (side_lots d) (both d)
+  where
+    both : (d : Side) → quotes_of (record { bids = p; offers = q }) d ≡ no_quotes
+    both Bid = e
+    both Offer = f
 
 -- something is taken
 take_some : (b : Lots) (s : ℕ) (d : Side) (q : ℕ) → Ok tt ≡ take_answer b s d q → q ≡ 0 → ⊥

@@ -1,6 +1,6 @@
 -- What a quote board means, and what a quote leaves on it.
-use Rattle.std.specs.Prelude.{◌≡◌, ℕ, Bool, true, false, cond, not, ◌||◌, List, [], ◌∷◌, ◌++◌, Ok, Err, filter, ◌==◌, nat_lt, slice_index_or}
-use Rattle.std.proofs.Common.{lit≤}
+use Rattle.std.specs.Prelude.{◌≡◌, ℕ, ◌-◌, Bool, true, false, cond, not, ◌||◌, List, [], ◌∷◌, ◌++◌, Ok, Err, Some, None, Option, filter, ◌==◌, nat_lt, slice_index_or}
+use Rattle.std.specs.Option.{option_map, option_to_list}
 use Rattle.refusals.specs.declared.reason.Reason.TheVariants.{NoSeries, BadLot}
 use Rattle.refusals.specs.declared.station.Station.TheVariants.{Quote as quoting}
 use Rattle.refusals.specs.Refusals.{refused_at}
@@ -9,43 +9,64 @@ use Rattle.simple.specs.declared.lot.Side.TheVariants.{Bid, Offer}
 use Rattle.simple.specs.declared.lot.Lot.{Lot}
 use Rattle.boards.specs.declared.quote.Quote.{Quote}
 use Rattle.boards.specs.declared.quote.Quotes.{Quotes}
+use Rattle.boards.specs.declared.quote.Sides.{Sides}
 use Rattle.boards.specs.declared.board.QuoteBoard.{QuoteBoard}
 use Rattle.simple.specs.Limits.{highest_price, lot_limit}
 use Rattle.boards.specs.Limits.{last_quoted}
 use Rattle.simple.specs.Lots.{Lots, lot_at, precedes, insert_lot, with_side}
 use Rattle.simple.specs.Best.{customers}
-use Rattle.simple.specs.Take.{Done}
+use Rattle.simple.specs.Take.{Done, resized}
 
 -- a quote of a maker or of a Priority Customer as a lot
 abbrev pub quote_lot : Bool → Quote → Lot
 quote_lot c q = lot_at q.price q.size c
 
--- a quote with no size shows none
+-- a lot with no size shows none
 abbrev pub standing : Lot → List Lot
 standing l = cond (l.size == 0) [] (l ∷ [])
 
+-- and is no quote
+abbrev pub lot_quoted : Lot → Option Lot
+lot_quoted l = cond (l.size == 0) None (Some l)
+
+-- a Priority Customer's lot x stands ahead of a maker's lot y, if both stand
+abbrev pub ahead_of : Side → Option Lot → Option Lot → Bool
+ahead_of d (Some x) (Some y) = precedes d x y
+ahead_of d (Some _) None = true
+ahead_of d None _ = true
+
 -- the two lots in rank
-abbrev pub in_rank : Side → Lot → Lot → List Lot
-in_rank d x y = cond (precedes d x y) (standing x ++ standing y) (standing y ++ standing x)
+abbrev pub in_rank : Side → Option Lot → Option Lot → List Lot
+in_rank d x y = cond (ahead_of d x y) (option_to_list x ++ option_to_list y) (option_to_list y ++ option_to_list x)
 
 -- the lots of the two quotes of a side
 abbrev pub side_lots : Side → Quotes → List Lot
-side_lots d q = in_rank d (quote_lot true q.customer) (quote_lot false q.maker)
+side_lots d q = in_rank d (option_map (quote_lot true) q.customer) (option_map (quote_lot false) q.maker)
+
+-- what is left of a lot once the quantity q is gone from it
+abbrev pub lot_left : ℕ → Option Lot → Option Lot
+lot_left q None = None
+lot_left q (Some l) = cond (nat_lt q l.size) (Some (resized l (l.size - q))) None
+
+-- and what is left of q for the lot behind it
+abbrev pub size_left : ℕ → Option Lot → ℕ
+size_left q None = q
+size_left q (Some l) = q - l.size
 
 -- neither a maker nor a Priority Customer quotes
-abbrev pub no_quote : Quote
-no_quote = record { price = 1; size = 0; sound = (lit≤ tt, lit≤ tt, lit≤ tt) }
-
 abbrev pub no_quotes : Quotes
-no_quotes = record { maker = no_quote; customer = no_quote }
+no_quotes = record { maker = None; customer = None }
 
--- the quotes of all bids, or of all offers, by series
-abbrev pub row_of : QuoteBoard → Side → List Quotes
-row_of b Bid = b.bids
-row_of b Offer = b.offers
+abbrev pub no_sides : Sides
+no_sides = record { bids = no_quotes; offers = no_quotes }
+
+-- the quotes of a series' bids, or of its offers
+abbrev pub quotes_of : Sides → Side → Quotes
+quotes_of t Bid = t.bids
+quotes_of t Offer = t.offers
 
 abbrev pub quotes_at : QuoteBoard → ℕ → Side → Quotes
-quotes_at b s d = slice_index_or (row_of b d) s no_quotes
+quotes_at b s d = quotes_of (slice_index_or b.series s no_sides) d
 
 -- a board has no lot above its last series
 abbrev pub board_lots : QuoteBoard → Lots

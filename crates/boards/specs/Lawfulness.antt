@@ -1,5 +1,6 @@
 -- The lists of a board are those that a simple book can have.
-use Rattle.std.specs.Prelude.{◌≡◌, ◌≤◌, Bool, true, false, cond, not, ◌&&◌, ◌||◌, [], ◌∷◌, ◌++◌, ◌==◌, nat_lt, refl}
+use Rattle.std.specs.Prelude.{◌≡◌, ◌≤◌, Bool, true, false, not, ◌&&◌, ◌||◌, [], ◌++◌, ◌==◌, nat_lt, Some, None, Option, IfSome, refl}
+use Rattle.std.specs.Option.{option_map, option_to_list}
 use Rattle.std.proofs.Common.{sym, inl, inr, arith}
 use Rattle.std.proofs.lemmas.Bool.{cond_both, eqb-false, eq-eqb, ltb-false, lt-ltb, not-false, cases_lt, and_cases, and_from, or_parts, or_left, or_right}
 use Rattle.simple.specs.declared.lot.Side.{Side}
@@ -8,10 +9,10 @@ use Rattle.simple.specs.declared.lot.Lot.{Lot}
 use Rattle.boards.specs.declared.quote.Quote.{Quote}
 use Rattle.boards.specs.declared.quote.Quotes.{Quotes}
 use Rattle.boards.specs.declared.board.QuoteBoard.{QuoteBoard}
-use Rattle.simple.specs.Limits.{highest_price, side_limit, lot_limit}
+use Rattle.simple.specs.Limits.{side_limit, lot_limit}
 use Rattle.boards.specs.Limits.{last_quoted}
 use Rattle.simple.specs.Lots.{precedes, Sound, Ranked, contracts, Lawful}
-use Rattle.boards.specs.Board.{quote_lot, standing, in_rank, side_lots, quotes_at, board_lots}
+use Rattle.boards.specs.Board.{quote_lot, ahead_of, in_rank, side_lots, quotes_at, board_lots}
 
 -- of two lots one precedes the other
 module _ (x y : Lot) where
@@ -40,49 +41,62 @@ module _ (x y : Lot) where
         | inr more ↦ or_right (nat_lt y.price x.price) _ (tied no.1 (omega arith))
       ]
 
--- a lot that a board may hold, or none
+-- a lot that a board may hold
 record Quotable (l : Lot) : Type 0 where
-  least : 1 ≤ l.price
-  most : l.price ≤ highest_price
+  sound : Sound l
   small : l.size ≤ lot_limit
 
-quotable : (c : Bool) (q : Quote) → Quotable (quote_lot c q)
-quotable c q = record { least = q.sound.0; most = q.sound.1; small = q.sound.2 }
+-- or none
+abbrev Fine : Option Lot → Type 0
+Fine o = IfSome o Quotable
 
-module _ (x y : Lot) (p : Quotable x) (q : Quotable y) where
-  stands : (l : Lot) → Quotable l → (l.size == 0) ≡ false → Sound l
-  stands l fit some = let none = eqb-false l.size 0 some in record { least = fit.least; most = fit.most; some = omega arith }
+quotable : (c : Bool) (o : Option Quote) → Fine (option_map (quote_lot c) o)
+quotable c None = tt
+quotable c (Some q) = record { sound = record { least = q.sound.0; most = q.sound.1; some = q.sound.2 }; small = q.sound.3 }
 
-  pair_ranked : (d : Side) → precedes d x y ≡ true → Ranked d (standing x ++ standing y)
-  pair_ranked d ahead = go (x.size == 0) (y.size == 0) refl refl
-    where
-      go : (t u : Bool) → (x.size == 0) ≡ t → (y.size == 0) ≡ u → Ranked d (cond t [] (x ∷ []) ++ cond u [] (y ∷ []))
-      go true true e f = tt
-      go true false e f = (stands y q f, tt, tt)
-      go false true e f = (stands x p e, tt, tt)
-      go false false e f = (stands x p e, (ahead, tt), (stands y q f, tt, tt))
+-- x is ahead of y, if both stand
+abbrev Ahead : Side → Option Lot → Option Lot → Type 0
+Ahead d x y = IfSome x (λ a. IfSome y (λ b. precedes d a b ≡ true))
 
-  pair_within : contracts (standing x ++ standing y) ≤ side_limit
-  pair_within = go (x.size == 0) (y.size == 0)
-    where
-      go : (t u : Bool) → contracts (cond t [] (x ∷ []) ++ cond u [] (y ∷ [])) ≤ side_limit
-      go true true = omega arith
-      go true false = omega (arith, q.small)
-      go false true = omega (arith, p.small)
-      go false false = omega (arith, p.small, q.small)
+pair_ranked : (d : Side) (x y : Option Lot) → Fine x → Fine y → Ahead d x y → Ranked d (option_to_list x ++ option_to_list y)
+pair_ranked d None None p q a = tt
+pair_ranked d None (Some y) p q a = (q.sound, tt, tt)
+pair_ranked d (Some x) None p q a = (p.sound, tt, tt)
+pair_ranked d (Some x) (Some y) p q a = (p.sound, (a, tt), (q.sound, tt, tt))
 
-module _ (d : Side) (x y : Lot) (p : Quotable x) (q : Quotable y) where
+pair_within : (x y : Option Lot) → Fine x → Fine y → contracts (option_to_list x ++ option_to_list y) ≤ side_limit
+pair_within None None p q = omega arith
+pair_within None (Some y) p q = omega (arith, q.small)
+pair_within (Some x) None p q = omega (arith, p.small)
+pair_within (Some x) (Some y) p q = omega (arith, p.small, q.small)
+
+first_ahead : (d : Side) (x y : Option Lot) → ahead_of d x y ≡ true → Ahead d x y
+first_ahead d None y e = tt
+first_ahead d (Some x) None e = tt
+first_ahead d (Some x) (Some y) e = e
+
+second_ahead : (d : Side) (x y : Option Lot) → ahead_of d x y ≡ false → Ahead d y x
+second_ahead d None None e = tt
+second_ahead d None (Some y) e = tt
+second_ahead d (Some x) None e = tt
+second_ahead d (Some x) (Some y) e = precedes_total x y d e
+
+module _ (d : Side) (x y : Option Lot) (p : Fine x) (q : Fine y) where
   rank_ranked : Ranked d (in_rank d x y)
-  rank_ranked = cond_both (precedes d x y) (standing x ++ standing y) (standing y ++ standing x) (Ranked d) (λ e. pair_ranked x y p q d e) (λ e. pair_ranked y x q p d (precedes_total x y d e))
+  rank_ranked =
+      cond_both (ahead_of d x y) (option_to_list x ++ option_to_list y) (option_to_list y ++ option_to_list x) (Ranked d)
+      (λ e. pair_ranked d x y p q (first_ahead d x y e)) (λ e. pair_ranked d y x q p (second_ahead d x y e))
 
   rank_within : contracts (in_rank d x y) ≤ side_limit
-  rank_within = cond_both (precedes d x y) (standing x ++ standing y) (standing y ++ standing x) (λ ls. contracts ls ≤ side_limit) (λ _. pair_within x y p q) (λ _. pair_within y x q p)
+  rank_within =
+      cond_both (ahead_of d x y) (option_to_list x ++ option_to_list y) (option_to_list y ++ option_to_list x) (λ ls. contracts ls ≤ side_limit)
+      (λ _. pair_within x y p q) (λ _. pair_within y x q p)
 
 side_ranked : (d : Side) (q : Quotes) → Ranked d (side_lots d q)
-side_ranked d q = rank_ranked d (quote_lot true q.customer) (quote_lot false q.maker) (quotable true q.customer) (quotable false q.maker)
+side_ranked d q = rank_ranked d (option_map (quote_lot true) q.customer) (option_map (quote_lot false) q.maker) (quotable true q.customer) (quotable false q.maker)
 
 side_within : (d : Side) (q : Quotes) → contracts (side_lots d q) ≤ side_limit
-side_within d q = rank_within d (quote_lot true q.customer) (quote_lot false q.maker) (quotable true q.customer) (quotable false q.maker)
+side_within d q = rank_within d (option_map (quote_lot true) q.customer) (option_map (quote_lot false) q.maker) (quotable true q.customer) (quotable false q.maker)
 
 pub board_lawful : (b : QuoteBoard) → Lawful (board_lots b)
 board_lawful b = record {

@@ -2,17 +2,24 @@
 ghost use Rattle.std.specs.Prelude.{◌≤◌};
 ghost use Rattle.simple.specs.Limits.{highest_price, lot_limit};
 
-// A price and a size; with size 0 it is no quote.
+// A price and a size that stand.
 #[derive(Clone, Copy)]
 pub(crate) struct Quote {
     pub(crate) price: u32,
     pub(crate) size: u32,
-    ghost sound: { (1 ≤ price) × (price ≤ highest_price) × (size ≤ lot_limit) },
+    ghost sound: { (1 ≤ price) × (price ≤ highest_price) × (1 ≤ size) × (size ≤ lot_limit) },
 }
 
-// The maker's quote and the Priority Customer's.
+// The maker's quote and the Priority Customer's, of those that quote.
 #[derive(Clone, Copy)]
 pub(crate) struct Quotes {
-    pub(crate) maker: Quote,
-    pub(crate) customer: Quote,
+    pub(crate) maker: Option<Quote>,
+    pub(crate) customer: Option<Quote>,
+}
+
+// The quotes of a series' bids and of its offers.
+#[derive(Clone, Copy)]
+pub(crate) struct Sides {
+    pub(crate) bids: Quotes,
+    pub(crate) offers: Quotes,
 }

@@ -1,18 +1,33 @@
 // What stands on a side of a board, and what is left of it.
-ghost use Rattle.std.specs.Prelude.{◌≡◌, ◌-◌, ◌≤◌, true, false, [], ◌∷◌, ◌++◌};
-ghost use Rattle.simple.specs.Limits.{lot_limit};
-ghost use Rattle.simple.specs.Lots.{precedes, contracts};
-ghost use Rattle.simple.specs.Best.{best_of, best_size, customers};
+ghost use Rattle.std.specs.Prelude.{◌≡◌, ◌≤◌, Bool, true, false, ◌++◌, Some, IfSome};
+ghost use Rattle.std.specs.Option.{option_map, option_to_list};
+ghost use Rattle.simple.specs.Limits.{highest_price, lot_limit};
+ghost use Rattle.simple.specs.Best.{best_of};
 ghost use Rattle.simple.specs.Take.{take_from};
-ghost use Rattle.boards.specs.Board.{quote_lot, standing, side_lots, requoted};
+ghost use Rattle.boards.specs.Board.{quote_lot, lot_quoted, ahead_of, size_left, lot_left, side_lots, no_quotes, requoted};
 
 use crate::quote::{Quote, Quotes};
 use simple::{Best, Lot, Side};
 
 impl Quote {
-    // The quote as a lot, of size 0 where it is none.
+    // The quote that a lot makes, or none where it has no size.
+    fn of(lot: Lot) -> Option<Quote>
+        requires { (1 ≤ lot.price) × (lot.price ≤ highest_price) × (lot.size ≤ lot_limit) }
+        ensures { option_map (quote_lot lot.customer) result ≡ lot_quoted lot }
+    {
+        if lot.size == 0 {
+            return None;
+        }
+        Some(Quote {
+            price: lot.price,
+            size: lot.size,
+        })
+    }
+
+    // The quote as a lot.
     fn lot(self, customer: bool) -> Lot
-        ensures { result ≡ quote_lot customer self }
+        ensures is { result ≡ quote_lot customer self }
+        ensures small { result.size ≤ lot_limit }
     {
         Lot {
             price: self.price,
@@ -21,68 +36,49 @@ impl Quote {
         }
     }
 
-    // The quote with a quantity gone, or all of it.
-    fn less(self, quantity: u32) -> Quote
-        ensures price { result.price ≡ self.price }
-        ensures size { result.size ≡ self.size - quantity }
+    // What is left of the quote once a quantity is gone.
+    fn less(self, quantity: u32) -> Option<Quote>
+        ensures { (c : Bool) → option_map (quote_lot c) result ≡ lot_left quantity (Some (quote_lot c self)) }
     {
-        Quote {
-            price: self.price,
-            size: self.size.saturating_sub(quantity),
+        if quantity >= self.size {
+            return None;
         }
+        Some(Quote {
+            price: self.price,
+            size: self.size - quantity,
+        })
     }
-}
-
-// The Priority Customers' part of a lot.
-fn customer_size(lot: Lot) -> u32
-    ensures is { result ≡ contracts (customers (lot ∷ [])) }
-    ensures part { result ≤ lot.size }
-{
-    if lot.customer { lot.size } else { 0 }
-}
-
-// What is best of a side that has one lot alone; a lot of size 0 is none.
-fn alone(lot: Lot) -> Option<Best>
-    ensures { result ≡ best_of (standing lot) }
-{
-    if lot.size == 0 {
-        return None;
-    }
-    Some(Best {
-        price: lot.price,
-        size: lot.size,
-        customer: customer_size(lot),
-    })
 }
 
 impl Quotes {
     // No quote.
     pub(crate) fn none() -> Quotes
-        ensures { (result.maker.size ≡ 0) × (result.customer.size ≡ 0) }
+        ensures { result ≡ no_quotes }
     {
-        let none = Quote { price: 1, size: 0 };
         Quotes {
-            maker: none,
-            customer: none,
+            maker: None,
+            customer: None,
         }
     }
 
     // Whether the Priority Customer's lot stands ahead of the maker's.
     fn customer_first(self, side: Side) -> bool
-        ensures { result ≡ precedes side (quote_lot true self.customer) (quote_lot false self.maker) }
+        ensures { result ≡ ahead_of side (option_map (quote_lot true) self.customer) (option_map (quote_lot false) self.maker) }
     {
-        self.customer
-            .lot(true)
-            .precedes(self.maker.lot(false), side)
+        match (self.customer, self.maker) {
+            (Some(customer), Some(maker)) => customer.lot(true).precedes(maker.lot(false), side),
+            _ => true,
+        }
     }
 
-    // The two lots in rank, each of size 0 where it is none.
-    fn in_rank(self, side: Side) -> (Lot, Lot)
-        ensures lots { side_lots side self ≡ standing result.0 ++ standing result.1 }
-        ensures small { (result.0.size ≤ lot_limit) × (result.1.size ≤ lot_limit) }
+    // The two lots in rank.
+    fn in_rank(self, side: Side) -> (Option<Lot>, Option<Lot>)
+        ensures lots { side_lots side self ≡ option_to_list result.0 ++ option_to_list result.1 }
+        ensures first { IfSome result.0 (λ l. l.size ≤ lot_limit) }
+        ensures second { IfSome result.1 (λ l. l.size ≤ lot_limit) }
     {
-        let customer = self.customer.lot(true);
-        let maker = self.maker.lot(false);
+        let customer = self.customer.map(|quote| quote.lot(true));
+        let maker = self.maker.map(|quote| quote.lot(false));
         if self.customer_first(side) {
             (customer, maker)
         } else {
@@ -94,35 +90,20 @@ impl Quotes {
     pub(crate) fn best(self, side: Side) -> Option<Best>
         ensures { result ≡ best_of (side_lots side self) }
     {
-        let (first, second) = self.in_rank(side);
-        if first.size == 0 {
-            return alone(second);
-        }
-        if second.size == 0 || second.price != first.price {
-            return alone(first);
-        }
-        Some(Best {
-            price: first.price,
-            size: first.size + second.size,
-            customer: customer_size(first) + customer_size(second),
-        })
-    }
-
-    // The contracts that can be taken.
-    pub(crate) fn available(self, side: Side) -> u32
-        ensures { result ≡ best_size (best_of (side_lots side self)) }
-    {
-        match self.best(side) {
-            Some(best) => best.size,
-            None => 0,
+        match self.in_rank(side) {
+            (Some(first), Some(second)) => Best::join(Best::join(None, first), second),
+            (Some(lot), None) | (None, Some(lot)) => Best::join(None, lot),
+            (None, None) => None,
         }
     }
 
-    // The quotes with one of the two set.
-    pub(crate) fn with(self, customer: bool, quote: Quote) -> Quotes
-        ensures { (d : Side) → side_lots d result ≡ requoted d (quote_lot customer quote) (side_lots d self) }
+    // The quotes once a lot takes the place of what its class had.
+    pub(crate) fn with(self, lot: Lot) -> Quotes
+        requires { (1 ≤ lot.price) × (lot.price ≤ highest_price) × (lot.size ≤ lot_limit) }
+        ensures { (d : Side) → side_lots d result ≡ requoted d lot (side_lots d self) }
     {
-        if customer {
+        let quote = Quote::of(lot);
+        if lot.customer {
             Quotes {
                 maker: self.maker,
                 customer: quote,
@@ -140,16 +121,21 @@ impl Quotes {
         ensures { side_lots side result ≡ take_from quantity (side_lots side self) }
     {
         let Quotes { maker, customer } = self;
-        if self.customer_first(side) {
-            Quotes {
-                maker: maker.less(quantity.saturating_sub(customer.size)),
-                customer: customer.less(quantity),
-            }
+        let (from_maker, from_customer) = if self.customer_first(side) {
+            (behind(customer, quantity), quantity)
         } else {
-            Quotes {
-                maker: maker.less(quantity),
-                customer: customer.less(quantity.saturating_sub(maker.size)),
-            }
+            (quantity, behind(maker, quantity))
+        };
+        Quotes {
+            maker: maker.and_then(|quote| quote.less(from_maker)),
+            customer: customer.and_then(|quote| quote.less(from_customer)),
         }
     }
+}
+
+// What is left of a quantity for the lot behind a quote from which it is taken first.
+fn behind(quote: Option<Quote>, quantity: u32) -> u32
+    ensures { (c : Bool) → result ≡ size_left quantity (option_map (quote_lot c) quote) }
+{
+    quote.map_or(quantity, |quote| quantity.saturating_sub(quote.size))
 }

@@ -2,6 +2,7 @@
 ghost use Rattle.std.specs.Prelude.{◌≡◌, ◌≤◌};
 ghost use Rattle.simple.specs.Limits.{last_series};
 
+use crate::lot::lot;
 use boards::QuoteBoard;
 use holds::HoldLayer;
 use simple::{Best, Side, SimpleBook};
@@ -20,8 +21,8 @@ fn take_beside<B: SimpleBook>(book: B, held: u32, series: u32, quantity: u32) ->
 #[test]
 fn a_board_ranks_its_lots_and_gives_them_from_the_front(rt: HostRuntime) {
     let mut board = QuoteBoard::new();
-    let _ = board.quote(3, Side::Bid, false, 100, 10);
-    let _ = board.quote(3, Side::Bid, true, 100, 5);
+    let _ = board.quote(3, Side::Bid, lot(false, 100, 10));
+    let _ = board.quote(3, Side::Bid, lot(true, 100, 5));
     assert_eq!(rt;
         board.best(3, Side::Bid),
         Some(Best {
@@ -45,7 +46,7 @@ fn a_board_ranks_its_lots_and_gives_them_from_the_front(rt: HostRuntime) {
 #[test]
 fn a_layer_hides_a_series_and_keeps_it(rt: HostRuntime) {
     let mut board = QuoteBoard::new();
-    let _ = board.quote(3, Side::Offer, false, 100, 10);
+    let _ = board.quote(3, Side::Offer, lot(false, 100, 10));
     let _ = take_beside(&mut board, 3, 3, 10);
     let mut pile = HoldLayer::new(HoldLayer::new(&mut board));
     let _ = pile.take(3, Side::Offer, 4);

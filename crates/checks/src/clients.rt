@@ -32,6 +32,7 @@ pub fn day(
 #[cfg(test)]
 mod tests {
     use super::*;
+    use crate::lot::lot;
     use contents::{OrderSide, TimeInForce};
     use lots::PostedLot;
     use simple::{Lot, Side};
@@ -78,10 +79,10 @@ mod tests {
     fn a_day_comes_to_its_quantity(rt: HostRuntime) -> Result<(), Fail> {
         let mut places = [NO_LOT; 1024];
         let mut book = DepthBook::open(&mut places);
-        assert!(rt; book.post(10, Side::Bid, false, 300, 3).is_ok());
-        assert!(rt; book.post(10, Side::Offer, false, 310, 3).is_ok());
-        assert!(rt; book.post(11, Side::Bid, false, 120, 4).is_ok());
-        assert!(rt; book.post(11, Side::Offer, false, 125, 4).is_ok());
+        assert!(rt; book.post(10, Side::Bid, lot(false, 300, 3)).is_ok());
+        assert!(rt; book.post(10, Side::Offer, lot(false, 310, 3)).is_ok());
+        assert!(rt; book.post(11, Side::Bid, lot(false, 120, 4)).is_ok());
+        assert!(rt; book.post(11, Side::Offer, lot(false, 125, 4)).is_ok());
         let order = NewOrder {
             strategy: 0,
             side: OrderSide::Buy,

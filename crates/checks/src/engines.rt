@@ -1,4 +1,5 @@
 // The engine where no program reaches: other memory, full tables, spent numbers, short and long lists.
+use crate::lot::lot;
 use boards::QuoteBoard;
 use contents::{OrderSide, TimeInForce};
 use depth::DepthBook;
@@ -94,10 +95,10 @@ fn order(side: OrderSide, limit: i64, time_in_force: TimeInForce) -> NewOrder {
 // Quotes that make a net market of 175 to 190.
 fn quoted() -> QuoteBoard {
     let mut board = QuoteBoard::new();
-    let _ = board.quote(10, Side::Bid, false, 300, 20);
-    let _ = board.quote(10, Side::Offer, false, 310, 20);
-    let _ = board.quote(11, Side::Bid, false, 120, 20);
-    let _ = board.quote(11, Side::Offer, false, 125, 20);
+    let _ = board.quote(10, Side::Bid, lot(false, 300, 20));
+    let _ = board.quote(10, Side::Offer, lot(false, 310, 20));
+    let _ = board.quote(11, Side::Bid, lot(false, 120, 20));
+    let _ = board.quote(11, Side::Offer, lot(false, 125, 20));
     board
 }
 
@@ -147,7 +148,7 @@ fn an_engine_needs_its_memory(rt: HostRuntime) {
 fn check_not_posted(rt: &impl Abort, memory: &mut [PostedLot]) {
     let mut depth = DepthBook::open(memory);
     assert_eq!(rt;
-        why(depth.post(3, Side::Offer, false, 100, 10)),
+        why(depth.post(3, Side::Offer, lot(false, 100, 10))),
         refused(Station::Opening, Reason::Memory)
     );
 }
@@ -217,11 +218,11 @@ fn a_depth_book_numbers_a_million_lots(rt: HostRuntime) -> Result<(), Fail> {
     let mut memory = [NO_LOT; 1024];
     let mut depth = DepthBook::open(&mut memory);
     for _ in 0..1_000_000 {
-        let number = depth.post(3, Side::Offer, false, 100, 10)?;
+        let number = depth.post(3, Side::Offer, lot(false, 100, 10))?;
         assert!(rt; depth.withdraw(number).is_ok());
     }
     assert_eq!(rt;
-        why(depth.post(3, Side::Offer, false, 100, 10)),
+        why(depth.post(3, Side::Offer, lot(false, 100, 10))),
         refused(Station::Post, Reason::LotNumbersSpent)
     );
     Ok(())

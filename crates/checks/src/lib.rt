@@ -8,6 +8,8 @@ mod clients;
 #[cfg(test)]
 mod engines;
 #[cfg(test)]
+mod lot;
+#[cfg(test)]
 mod messages_read;
 #[cfg(test)]
 mod messages_written;

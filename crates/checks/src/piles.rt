@@ -41,6 +41,7 @@ pub(crate) fn take_through_two<B: SimpleBook>(
 #[cfg(test)]
 mod tests {
     use super::*;
+    use crate::lot::lot;
     use depth::DepthBook;
     use lots::PostedLot;
     use simple::{Best, Lot};
@@ -60,8 +61,8 @@ mod tests {
     fn a_depth_book_is_taken_from_through_two_layers(rt: HostRuntime) {
         let mut memory = [NO_LOT; 1024];
         let mut depth = DepthBook::open(&mut memory);
-        assert!(rt; depth.post(3, Side::Offer, false, 100, 10).is_ok());
-        assert!(rt; depth.post(3, Side::Offer, true, 100, 5).is_ok());
+        assert!(rt; depth.post(3, Side::Offer, lot(false, 100, 10)).is_ok());
+        assert!(rt; depth.post(3, Side::Offer, lot(true, 100, 5)).is_ok());
         let (_, answer) = take_through_two(&mut depth, 3, Side::Offer, 7);
         assert!(rt; answer.is_ok());
         assert_eq!(rt;

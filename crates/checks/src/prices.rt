@@ -1,4 +1,5 @@
 // Prices of strategies, on examples.
+use crate::lot::lot;
 use boards::QuoteBoard;
 use pricing::{NetPrice, StrategyMarket, displayed_price, market_of, net_market};
 use refusals::Reason;
@@ -8,8 +9,8 @@ use strategies::{Leg, Strategy, StrategyRow};
 
 // Quotes a series on both sides, 20 contracts each.
 fn quote(board: &mut QuoteBoard, series: u32, bid: u32, offer: u32) {
-    let _ = board.quote(series, Side::Bid, false, bid, 20);
-    let _ = board.quote(series, Side::Offer, false, offer, 20);
+    let _ = board.quote(series, Side::Bid, lot(false, bid, 20));
+    let _ = board.quote(series, Side::Offer, lot(false, offer, 20));
 }
 
 // Quotes of series 10 and 11.
@@ -41,7 +42,7 @@ fn spread(ten: u32, eleven: u32) -> Result<Strategy, Reason> {
 fn market(customer: bool) -> Option<StrategyMarket> {
     let mut board = quoted((300, 310), (120, 125));
     if customer {
-        let _ = board.quote(11, Side::Bid, true, 120, 20);
+        let _ = board.quote(11, Side::Bid, lot(true, 120, 20));
     }
     let Ok(strategy) = spread(1, 1) else {
         return None;
@@ -152,7 +153,7 @@ fn an_order_shows_what_it_can_trade_at(rt: HostRuntime) {
 #[test]
 fn a_market_order_shows_nothing_while_a_leg_is_missing(rt: HostRuntime) -> Result<(), Fail> {
     let mut board = quoted((300, 310), (120, 125));
-    let _ = board.quote(11, Side::Offer, false, 125, 0);
+    let _ = board.quote(11, Side::Offer, lot(false, 125, 0));
     let strategy = spread(1, 1)?;
     let missing = market_of(&mut board, &strategy);
     assert_eq!(rt; displayed_price(missing, true, true, 40_000_000), None);

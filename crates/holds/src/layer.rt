@@ -1,7 +1,6 @@
 // A layer over any simple book that keeps series on hold.
-ghost use Rattle.std.specs.Prelude.{◌≡◌, ℕ, ◌<◌, ◌≤◌, true, false, length, slice_set};
+ghost use Rattle.std.specs.Prelude.{◌≡◌, ℕ, ◌<◌, true, false, length, Ok, slice_set};
 ghost use Rattle.refusals.specs.declared.station.Station.TheVariants.{Hold, Release};
-ghost use Rattle.simple.specs.Limits.{last_series};
 ghost use Rattle.simple.specs.Take.{after};
 ghost use Rattle.holds.specs.Hold.{HoldFrame, layer_lots, layer_frame, hold_frame, beneath, shown, on_hold, re_marked, no_marks, no_lots, mark_answer, with_series};
 ghost use Rattle.holds.specs.Lawfulness.{shown_lawful};
@@ -71,11 +70,7 @@ impl<B: SimpleBook> HoldLayer<B> {
         ensures held { on_hold self.new.marks ≡ after result (re_marked self.old.marks series true) (on_hold self.old.marks) }
         ensures lots { layer_lots B.lots self.new ≡ after result (with_series (layer_lots B.lots self.old) series no_lots) (layer_lots B.lots self.old) }
     {
-        if series > LAST_SERIES {
-            return Err(Refusal::at(Station::Hold, Reason::NoSeries));
-        }
-        self.mark(series, true);
-        Ok(())
+        self.mark(Station::Hold, series, true)
     }
 
     // Releases a series: its two sides are those of the book below.
@@ -86,21 +81,21 @@ impl<B: SimpleBook> HoldLayer<B> {
         ensures held { on_hold self.new.marks ≡ after result (re_marked self.old.marks series false) (on_hold self.old.marks) }
         ensures lots { layer_lots B.lots self.new ≡ after result (with_series (layer_lots B.lots self.old) series (B.lots self.old.book series)) (layer_lots B.lots self.old) }
     {
-        if series > LAST_SERIES {
-            return Err(Refusal::at(Station::Release, Reason::NoSeries));
-        }
-        self.mark(series, false);
-        Ok(())
+        self.mark(Station::Release, series, false)
     }
 
-    // Sets or clears the mark of a series.
-    fn mark(&mut self, series: u32, held: bool)
-        requires { series ≤ last_series }
+    // Sets or clears the mark of a series, unless no book carries it.
+    fn mark(&mut self, at: Station, series: u32, held: bool) -> Result<(), Refusal>
+        ensures answer { result ≡ mark_answer at series }
         ensures book { self.new.book ≡ self.old.book }
-        ensures marks { self.new.marks ≡ slice_set self.old.marks series held }
-        ensures sized { series < length self.old.marks }
+        ensures marks { self.new.marks ≡ after result (slice_set self.old.marks series held) self.old.marks }
+        ensures sized { result ≡ Ok tt → series < length self.old.marks }
     {
+        if series > LAST_SERIES {
+            return Err(Refusal::at(at, Reason::NoSeries));
+        }
         self.marks[series as usize] = held;
+        Ok(())
     }
 
     // Whether a series is on hold.

@@ -1,6 +1,8 @@
 //! A lot that stands on a depth book, and its rank.
 
-ghost use Rattle.lots.specs.Rank.{lot_ahead, lot_number, lot_keys};
+ghost use Rattle.std.specs.Prelude.{◌≡◌, not, pos};
+ghost use Rattle.lots.specs.Rank.{is_bid, lot_ahead, lot_number, lot_keys};
+ghost use Rattle.ranked.specs.Lex.{better};
 ghost use Rattle.ranked.proofs.Lexes.{keys_connected, keys_irreflexive, keys_transitive};
 
 use ranked::Ranked;
@@ -15,6 +17,25 @@ pub struct PostedLot {
     pub number: u32,
 }
 
+impl PostedLot {
+    /// What ranks it, the least first: its series, bids before offers, the better price, Priority Customers
+    /// before makers, its number.
+    fn key(&self) -> (u32, bool, i64, bool, u32)
+        ensures series { result.0 ≡ self.now.series }
+        ensures offer { result.1 ≡ not (is_bid self.now.side) }
+        ensures price { result.2 ≡ better (is_bid self.now.side) (pos self.now.lot.price) }
+        ensures maker { result.3 ≡ not self.now.lot.customer }
+        ensures number { result.4 ≡ self.now.number }
+    {
+        let price = i64::from(self.lot.price);
+        let (offer, price) = match self.side {
+            Side::Bid => (false, -price),
+            Side::Offer => (true, price),
+        };
+        (self.series, offer, price, !self.lot.customer, self.number)
+    }
+}
+
 impl Ranked for PostedLot {
     ghost ahead = { lot_ahead };
 
@@ -27,19 +48,7 @@ impl Ranked for PostedLot {
     ghost transitive = { keys_transitive lot_number lot_keys };
 
     fn is_ahead(&self, other: &PostedLot) -> bool {
-        if self.series != other.series {
-            return self.series < other.series;
-        }
-        if self.side != other.side {
-            return self.side == Side::Bid;
-        }
-        if self.lot.price != other.lot.price {
-            return self.side.is_better(self.lot.price, other.lot.price);
-        }
-        if self.lot.customer != other.lot.customer {
-            return self.lot.customer;
-        }
-        self.number < other.number
+        self.key() < other.key()
     }
 
     fn number(&self) -> u32 {

@@ -1,12 +1,12 @@
 -- What it does to a list to take an entry out.
-use Rattle.std.proofs.Common.{◌≡◌, ℕ, zero, suc, Bool, true, false, not, eqb, List, [], ◌∷◌, take, drop, Some, None, sym, ap, ◌∙◌, subst, arith}
+use Rattle.std.proofs.Common.{◌≡◌, ℕ, zero, suc, ◌≤◌, Bool, true, false, not, eqb, ◌++◌, List, [], ◌∷◌, take, drop, Some, None, sym, ap, ◌∙◌, subst, arith}
 use Rattle.std.specs.List.{slice_get, remove, AllByRecursion}
 use Rattle.std.specs.List.Sorted.{IsPermutation}
 use Rattle.std.proofs.ByRecursion.{All-weaker, All-append, All-take, All-drop}
 use Rattle.std.proofs.lemmas.List.Sorted.{IsPermutation-refl, IsPermutation-cons, IsPermutation-trans}
 use Rattle.std.proofs.lemmas.Bool.{cond-true, cond-false, eq-eqb, ne_eqb}
 use Rattle.ranked.specs.Ranking.{without, Pairwise, Distinct, Absent}
-use Rattle.ranked.specs.Laws.{LawfulRemoval}
+use Rattle.ranked.specs.Laws.{LawfulRemoval, LawfulRangeRemoval}
 use Rattle.ranked.proofs.Lists.{kept_all, all_nth, swap_first}
 
 -- what holds of each entry holds of each that is left
@@ -65,3 +65,20 @@ module _ {X : Type 0} (ahead : X → X → Bool) (serial : X → ℕ) (xs : List
     distinct = λ d. d;
     keeps = IsPermutation-refl xs;
   }
+
+-- the entries of a range of places are gone
+module _ {X : Type 0} (R : X → X → Type 0) where
+  closed_pairwise : (xs : List X) (i j : ℕ) → i ≤ j → Pairwise R xs → Pairwise R (take i xs ++ drop j xs)
+  closed_pairwise xs zero zero le p = p
+  closed_pairwise [] zero (suc j) le p = tt
+  closed_pairwise (x ∷ xs) zero (suc j) le p = closed_pairwise xs zero j (omega arith) p.1
+  closed_pairwise xs (suc i) zero le p = absurd (omega arith)
+  closed_pairwise [] (suc i) (suc j) le p = tt
+  closed_pairwise (x ∷ xs) (suc i) (suc j) le p =
+      (All-append (R x) (take i xs) (drop j xs) (All-take (R x) i xs p.0) (All-drop (R x) j xs p.0), closed_pairwise xs i j (omega arith) p.1)
+
+pub lawful_range_removal : {X : Type 0} (ahead : X → X → Bool) (serial : X → ℕ) (xs : List X) (i j : ℕ) → i ≤ j → LawfulRangeRemoval ahead serial xs (take i xs ++ drop j xs)
+lawful_range_removal ahead serial xs i j le = record {
+  sorted = closed_pairwise (λ x y. ahead x y ≡ true) xs i j le;
+  distinct = closed_pairwise (λ x y. serial x ≡ serial y → ⊥) xs i j le;
+}

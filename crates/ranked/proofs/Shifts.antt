@@ -1,74 +1,44 @@
--- What a loop leaves that moves a part of the entries by one slot.
-use Rattle.std.proofs.Common.{◌≡◌, ℕ, ◌+◌, ◌-◌, ◌<◌, ◌≤◌, ◌≢◌, List, length, get_or, take, set, inl, inr, arith}
-use Rattle.std.specs.List.{insert, remove}
-use Rattle.std.proofs.lemmas.List.{same_lists, length-take-le, length-set, get_or-take, get_or-set_same, get_or-set_other}
-use Rattle.std.proofs.lemmas.Bool.{cases_order, cases_lt}
-use Rattle.std.proofs.lemmas.List.Edits.{length-insert, get_or-insert_below, get_or-insert_at, get_or-insert_above, length-remove, get_or-remove_below, get_or-remove_above}
+-- What a copy within the slots leaves that moves a part of the entries.
+use Rattle.std.proofs.Common.{◌≡◌, ℕ, ◌+◌, ◌-◌, ◌<◌, ◌≤◌, List, [], ◌∷◌, ◌++◌, length, take, drop, set, sym, ap, ◌∙◌, add-one, arith}
+use Rattle.std.specs.List.{insert, remove, copy_within}
+use Rattle.std.proofs.lemmas.List.{take-take, drop-take, length-drop, length-take-le, take_more_set, set-append_left, append_assoc}
+use Rattle.std.proofs.lemmas.List.Edits.{take-paste}
+use lib.Seq.{take-set-lt}
 
-module _ {X : Type 0} (s t : List X) (n i : ℕ) (same : length t ≡ length s) where
+module _ {X : Type 0} (s : List X) (n i : ℕ) where
+  -- the first n slots before a place
+  front : i ≤ n → take i (take n s) ≡ take i s
+  front le = take-take i n s le
+
+  -- and from there on
+  back : i ≤ n → drop i (take n s) ≡ take (n - i) (drop i s)
+  back le = let all : n ≡ i + (n - i) = omega arith in ap (λ k. drop i (take k s)) all ∙ drop-take i (n - i) s
+
   -- the entries from i on stand one slot higher, and e is put at i
-  pub shifted_up : (e : X) → i ≤ n → n < length s
-      → ((j : ℕ) (d : X) → j ≤ i → get_or t j d ≡ get_or s j d)
-      → ((j : ℕ) (d : X) → i ≤ j → j < n → get_or t (j + 1) d ≡ get_or s j d)
-      → take (n + 1) (set t i e) ≡ insert (take n s) i e
-  shifted_up e le lt low high =
-      let fits : n ≤ length s = omega arith in
-      let front : length (take n s) ≡ n = length-take-le n s fits in
-      let within : i ≤ length (take n s) = omega arith in
-      let all : length (set t i e) ≡ length t = length-set t i e in
-      let long : length (take (n + 1) (set t i e)) ≡ n + 1 = length-take-le (n + 1) (set t i e) (omega arith) in
-      let wide : length (insert (take n s) i e) ≡ length (take n s) + 1 = length-insert (take n s) i e within in
-      same_lists (take (n + 1) (set t i e)) (insert (take n s) i e) (omega arith)
-      (λ k d h.
-      let k≤n : k < n + 1 = omega arith in
-      let got : get_or (take (n + 1) (set t i e)) k d ≡ get_or (set t i e) k d = get_or-take (n + 1) (set t i e) k d k≤n in
-      elim (cases_order k i) [
-        | inl at ↦
-            let a : get_or (set t i e) i d ≡ e = get_or-set_same t i e d (omega arith) in
-            let b : get_or (insert (take n s) i e) i d ≡ e = get_or-insert_at (take n s) i e d within in
-            cc
-        | inr far ↦ elim far [
-          | inl less ↦
-              let ne : k ≢ i = omega arith in
-              let a : get_or (set t i e) k d ≡ get_or t k d = get_or-set_other t i k e d ne in
-              let b : get_or t k d ≡ get_or s k d = low k d (omega arith) in
-              let b' : get_or (insert (take n s) i e) k d ≡ get_or (take n s) k d = get_or-insert_below (take n s) i e d k less within in
-              let b'' : get_or (take n s) k d ≡ get_or s k d = get_or-take n s k d (omega arith) in
-              cc
-          | inr more ↦
-              let ne : k ≢ i = omega arith in
-              let up : k - 1 + 1 ≡ k = omega arith in
-              let a : get_or (set t i e) k d ≡ get_or t k d = get_or-set_other t i k e d ne in
-              let b : get_or t (k - 1 + 1) d ≡ get_or s (k - 1) d = high (k - 1) d (omega arith) (omega arith) in
-              let b' : get_or (insert (take n s) i e) (k - 1 + 1) d ≡ get_or (take n s) (k - 1) d = get_or-insert_above (take n s) i e d (k - 1) (omega arith) within in
-              let b'' : get_or (take n s) (k - 1) d ≡ get_or s (k - 1) d = get_or-take n s (k - 1) d (omega arith) in
-              cc
-        ]
-      ])
+  pub shifted_up : (e : X) → i ≤ n → n < length s → take (n + 1) (set (copy_within s i n (i + 1)) i e) ≡ insert (take n s) i e
+  shifted_up e le lt =
+      let moved = copy_within s i n (i + 1) in
+      let rest = take (n - i) (drop i s) in
+      let all : n + 1 ≡ i + 1 + (n - i) = omega arith in
+      let long : length (take (i + 1) s) ≡ i + 1 = length-take-le (i + 1) s (omega arith) in
+      take-set-lt (n + 1) moved i e (omega arith)
+      ∙ ap (λ k. set (take k moved) i e) all
+      ∙ ap (λ xs. set xs i e) (take-paste s (i + 1) (drop i s) (n - i) (omega arith) (omega (arith, length-drop i s)))
+      ∙ set-append_left (take (i + 1) s) rest i e (omega arith)
+      ∙ ap (λ xs. xs ++ rest) (sym (take-set-lt (i + 1) s i e (omega arith)) ∙ take_more_set s i e (omega arith))
+      ∙ append_assoc (take i s) (e ∷ []) rest
+      ∙ sym (ap (λ xs. xs ++ e ∷ drop i (take n s)) (front le) ∙ ap (λ xs. take i s ++ e ∷ xs) (back le))
 
-  -- the entries behind i stand one slot lower
-  pub shifted_down : i < n → n ≤ length s
-      → ((j : ℕ) (d : X) → j < i → get_or t j d ≡ get_or s j d)
-      → ((j : ℕ) (d : X) → i ≤ j → j + 1 < n → get_or t j d ≡ get_or s (j + 1) d)
-      → take (n - 1) t ≡ remove (take n s) i
-  shifted_down lt le low high =
-      let front : length (take n s) ≡ n = length-take-le n s le in
-      let within : i < length (take n s) = omega arith in
-      let long : length (take (n - 1) t) ≡ n - 1 = length-take-le (n - 1) t (omega arith) in
-      let wide : length (remove (take n s) i) + 1 ≡ length (take n s) = length-remove (take n s) i within in
-      same_lists (take (n - 1) t) (remove (take n s) i) (omega arith)
-      (λ k d h.
-      let k<n : k < n - 1 = omega arith in
-      let got : get_or (take (n - 1) t) k d ≡ get_or t k d = get_or-take (n - 1) t k d k<n in
-      elim (cases_lt k i) [
-        | inl less ↦
-            let b : get_or t k d ≡ get_or s k d = low k d less in
-            let b' : get_or (remove (take n s) i) k d ≡ get_or (take n s) k d = get_or-remove_below (take n s) i d k less within in
-            let b'' : get_or (take n s) k d ≡ get_or s k d = get_or-take n s k d (omega arith) in
-            cc
-        | inr more ↦
-            let b : get_or t k d ≡ get_or s (k + 1) d = high k d more (omega arith) in
-            let b' : get_or (remove (take n s) i) k d ≡ get_or (take n s) (k + 1) d = get_or-remove_above (take n s) i d k more within in
-            let b'' : get_or (take n s) (k + 1) d ≡ get_or s (k + 1) d = get_or-take n s (k + 1) d (omega arith) in
-            cc
-      ])
+-- the entries from one place up to another are closed over
+pub closed_over : {X : Type 0} (s : List X) (n i j : ℕ) → i ≤ j → j ≤ n → n ≤ length s → take (i + (n - j)) (copy_within s j n i) ≡ take i (take n s) ++ drop j (take n s)
+closed_over s n i j le within fits =
+    take-paste s i (drop j s) (n - j) (omega arith) (omega (arith, length-drop j s))
+    ∙ sym (ap (λ xs. xs ++ drop j (take n s)) (front s n i (omega arith)) ∙ ap (λ xs. take i s ++ xs) (back s n j within))
+
+-- the entries behind i stand one slot lower
+pub shifted_down : {X : Type 0} (s : List X) (n i : ℕ) → i < n → n ≤ length s → take (n - 1) (copy_within s (i + 1) n i) ≡ remove (take n s) i
+shifted_down s n i lt fits =
+    let all : n - 1 ≡ i + (n - (i + 1)) = omega arith in
+    ap (λ k. take k (copy_within s (i + 1) n i)) all
+    ∙ closed_over s n i (i + 1) (omega arith) (omega arith) fits
+    ∙ ap (λ k. take i (take n s) ++ drop k (take n s)) (add-one i)

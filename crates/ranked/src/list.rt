@@ -2,12 +2,13 @@
 
 ghost use Rattle.std.specs.Prelude.{◌≡◌, ◌+◌, ◌^◌, ◌<◌, ◌≤◌, true, [], length, take, is_some, if◌then◌else◌, MatchOption, nat_lt, slice_set};
 ghost use Rattle.std.specs.List.{slice_get, remove};
-ghost use Rattle.ranked.specs.Ranking.{place_with, ranked_insert, Absent, Standing};
+ghost use Rattle.ranked.specs.Ranking.{place_with, ranked_insert, without_range, Absent, Standing};
 ghost use Rattle.ranked.specs.Held.{items, room};
-ghost use Rattle.ranked.specs.Laws.{LawfulInsertion, LawfulRemoval, LawfulReplacement};
+ghost use Rattle.ranked.specs.Laws.{LawfulInsertion, LawfulRemoval, LawfulRangeRemoval, LawfulReplacement};
 
 use crate::rank::Ranked;
 use crate::slots;
+use std::ops::Range;
 
 /// Entries in rank, in slots that the caller lends: the first `len` of them, or all if there are fewer.
 /// It has no invariant of its own, so that a struct that has one can hold it by value.
@@ -39,16 +40,14 @@ impl<'a, E: Ranked> RankedList<'a, E> {
         ensures within { result ≤ room self.now }
         ensures front { take result self.now.slots.now ≡ items self.now }
     {
-        let most = self.capacity();
-        if self.len < most { self.len } else { most }
+        self.len.min(self.capacity())
     }
 
     /// The entries, in order.
     pub fn entries(&self) -> &[E]
         ensures { result.now ≡ items self.now }
     {
-        let n = self.len();
-        &self.slots[0..n]
+        &self.slots[..self.len()]
     }
 
     /// The entry at a place, if there is such a place; then the next place is a number too.
@@ -105,6 +104,20 @@ impl<'a, E: Ranked> RankedList<'a, E> {
         Some(e)
     }
 
+    /// Takes the entries out that stand from one place up to another, as far as there are such.
+    pub fn remove_range(&mut self, places: Range<usize>)
+        ensures items { items self.new ≡ without_range places.start places.end (items self.old) }
+        ensures room { room self.new ≡ room self.old }
+        ensures laws { LawfulRangeRemoval E.ahead E.serial (items self.old) (items self.new) }
+    {
+        let n = self.len();
+        let end = places.end.min(n);
+        if places.start < end {
+            slots::take_range(self.slots, n, places.start, end);
+            self.len = n - (end - places.start);
+        }
+    }
+
     /// Puts another entry in the place of one, and answers that one. Where there is no such place nothing
     /// changes.
     pub fn replace(&mut self, place: usize, e: E) -> Option<E>
@@ -115,7 +128,7 @@ impl<'a, E: Ranked> RankedList<'a, E> {
         ensures room { room self.new ≡ room self.old }
         ensures laws { LawfulReplacement E.ahead E.serial e (items self.old) result (items self.new) }
     {
-        let n = self.len;
+        let n = self.len();
         slots::exchange(self.slots, n, place, e)
     }
 }

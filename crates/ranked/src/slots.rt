@@ -1,11 +1,12 @@
 //! What is looked for among the entries of a list, and how its slots are shifted.
 
-ghost use Rattle.std.specs.Prelude.{◌≡◌, ◌+◌, ◌-◌, ◌<◌, ◌≤◌, true, length, take, is_some, if◌then◌else◌, Some, MatchOption, nat_lt, slice_set};
+ghost use Rattle.std.specs.Prelude.{◌≡◌, ◌+◌, ◌-◌, ◌<◌, ◌≤◌, ◌++◌, true, length, take, drop, is_some, if◌then◌else◌, Some, MatchOption, nat_lt, slice_set};
 ghost use Rattle.std.specs.List.{slice_get, remove};
 ghost use Rattle.ranked.specs.Ranking.{place_of, place_with, ranked_insert, Absent, Standing};
-ghost use Rattle.ranked.specs.Laws.{LawfulInsertion, LawfulRemoval, LawfulReplacement};
+ghost use Rattle.ranked.specs.Laws.{LawfulInsertion, LawfulRemoval, LawfulRangeRemoval, LawfulReplacement};
 
 use crate::rank::Ranked;
+use std::mem;
 
 /// The entry at a place, if there is such a place.
 pub(crate) fn entry_at<E: Copy>(entries: &[E], place: usize) -> Option<E>
@@ -20,24 +21,17 @@ pub(crate) fn place_with<E: Ranked>(entries: &[E], number: u32) -> Option<usize>
     ensures answer { result ≡ place_with E.serial number entries.now }
     ensures found { MatchOption result (Absent E.serial number entries.now) (Standing E.serial number entries.now) }
 {
-    for (i, entry) in entries.iter().enumerate() {
-        if entry.number() == number {
-            return Some(i);
-        }
-    }
-    None
+    entries.iter().position(|entry| entry.number() == number)
 }
 
-/// Where an entry belongs among those of a list.
+/// Where an entry belongs among those of a list. A walk from the front: the entries need not be in rank.
 pub(crate) fn place_of<E: Ranked>(entries: &[E], e: &E) -> usize
     ensures { result ≡ place_of E.ahead e.now entries.now }
 {
-    for (i, entry) in entries.iter().enumerate() {
-        if !entry.is_ahead(e) {
-            return i;
-        }
-    }
-    entries.len()
+    entries
+        .iter()
+        .position(|entry| !entry.is_ahead(e))
+        .unwrap_or(entries.len())
 }
 
 /// Puts an entry in among the first `n`, at the place where it belongs: those from there on move up by one slot.
@@ -47,9 +41,7 @@ pub(crate) fn put_in<E: Ranked>(slots: &mut [E], n: usize, place: usize, e: E)
     ensures after { take (n + 1) slots.new ≡ ranked_insert E.ahead e (take n slots.old) }
     ensures laws { LawfulInsertion E.ahead E.serial e (take n slots.old) true (take (n + 1) slots.new) }
 {
-    for k in (place..n).rev() {
-        slots[k + 1] = slots[k];
-    }
+    slots.copy_within(place..n, place + 1);
     slots[place] = e;
 }
 
@@ -61,23 +53,30 @@ pub(crate) fn take_out<E: Ranked>(slots: &mut [E], n: usize, place: usize) -> E
     ensures laws { LawfulRemoval E.ahead E.serial (take n slots.old) (Some result) (take (n - 1) slots.new) }
 {
     let e = slots[place];
-    for k in place + 1..n {
-        slots[k - 1] = slots[k];
-    }
+    slots.copy_within(place + 1..n, place);
     e
+}
+
+/// Takes the entries out from among the first `n` that stand from one place up to another: those behind them
+/// move down.
+pub(crate) fn take_range<E: Ranked>(slots: &mut [E], n: usize, first: usize, end: usize)
+    requires { (first ≤ end) × (end ≤ n) × (n ≤ length slots.old) }
+    ensures after { take (n - (end - first)) slots.new ≡ take first (take n slots.old) ++ drop end (take n slots.old) }
+    ensures laws { LawfulRangeRemoval E.ahead E.serial (take n slots.old) (take (n - (end - first)) slots.new) }
+{
+    slots.copy_within(end..n, first);
 }
 
 /// Puts an entry in the place of one of the first `n`, and answers that one, if there is such a place.
 pub(crate) fn exchange<E: Ranked>(slots: &mut [E], n: usize, place: usize, e: E) -> Option<E>
+    requires { n ≤ length slots.old }
     ensures answer { result ≡ slice_get (take n slots.old) place }
     ensures within { is_some result ≡ nat_lt place (length (take n slots.old)) }
     ensures after { take n slots.new ≡ (if is_some result then slice_set (take n slots.old) place e else take n slots.old) }
     ensures laws { LawfulReplacement E.ahead E.serial e (take n slots.old) result (take n slots.new) }
 {
-    if place >= n || place >= slots.len() {
+    if place >= n {
         return None;
     }
-    let old = slots[place];
-    slots[place] = e;
-    Some(old)
+    Some(mem::replace(&mut slots[place], e))
 }

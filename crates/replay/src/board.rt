@@ -14,13 +14,7 @@ impl SessionBook for QuoteBoard {
 
     fn call(&mut self, call: BookCall) -> Answer {
         match call {
-            BookCall::Quote(entry) => done_answer(self.quote(
-                entry.series,
-                entry.side,
-                entry.lot.customer,
-                entry.lot.price,
-                entry.lot.size,
-            )),
+            BookCall::Quote(entry) => done_answer(self.quote(entry.series, entry.side, entry.lot)),
             BookCall::Post(_) | BookCall::Withdraw(_) => Answer::Wrong(Complaint::Unfit),
         }
     }

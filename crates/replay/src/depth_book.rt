@@ -31,13 +31,7 @@ impl<'a> SessionBook for DepthBook<'a> {
     fn call(&mut self, call: BookCall) -> Answer {
         match call {
             BookCall::Quote(_) => Answer::Wrong(Complaint::Unfit),
-            BookCall::Post(entry) => posted_answer(self.post(
-                entry.series,
-                entry.side,
-                entry.lot.customer,
-                entry.lot.price,
-                entry.lot.size,
-            )),
+            BookCall::Post(entry) => posted_answer(self.post(entry.series, entry.side, entry.lot)),
             BookCall::Withdraw(lot) => done_answer(self.withdraw(lot)),
         }
     }

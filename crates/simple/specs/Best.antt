@@ -1,5 +1,5 @@
 -- What best answers of one side.
-use Rattle.std.specs.Prelude.{◌≡◌, ℕ, ◌≤◌, false, List, [], ◌∷◌, Some, None, filter, Option, nat_eq}
+use Rattle.std.specs.Prelude.{◌≡◌, ℕ, ◌+◌, ◌≤◌, false, cond, List, [], ◌∷◌, Some, None, filter, Option, ◌==◌, nat_eq}
 use Rattle.std.specs.List.{AllByRecursion}
 use Rattle.simple.specs.declared.lot.Side.{Side}
 use Rattle.simple.specs.declared.lot.Lot.{Lot}
@@ -26,6 +26,21 @@ best_of (l ∷ ls) =
 abbrev pub best_size : Option Best → ℕ
 best_size None = 0
 best_size (Some b) = b.size
+
+-- the Priority Customers' part of a best
+abbrev pub customer_part : Option Best → ℕ
+customer_part None = 0
+customer_part (Some b) = b.customer
+
+-- the Priority Customers' part of a lot
+abbrev pub customer_size : Lot → ℕ
+customer_size l = cond l.customer l.size 0
+
+-- what is best of a side once a lot follows
+abbrev pub joined : Option Best → Lot → Option Best
+joined None l = Some (record { price = l.price; size = l.size; customer = customer_size l })
+joined (Some b) l =
+    Some (cond (l.price == b.price) (record { price = b.price; size = b.size + l.size; customer = b.customer + customer_size l }) b)
 
 -- what a best tells of its side: the first lot has its price and no lot a better one, its size is what stands at
 -- that price, at least one contract and no more than a side holds, and the Priority Customers have a part of it

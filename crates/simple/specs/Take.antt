@@ -32,12 +32,15 @@ take_from q (l ∷ ls) = cond (nat_lt q l.size) (resized l (l.size - q) ∷ ls) 
 abbrev pub taken : Lots → ℕ → Side → ℕ → Lots
 taken b s d q = with_side b s d (take_from q (b s d))
 
--- the series, then the quantity: some, and no more than stands at the best price
-abbrev pub take_answer : Lots → ℕ → Side → ℕ → Done
-take_answer b s d q =
+-- the series, then the quantity: some, and no more than the n contracts that stand at the best price
+abbrev pub take_test : ℕ → ℕ → ℕ → Done
+take_test s n q =
     cond (nat_lt last_series s) (Err (refused_at Take NoSeries))
-    (cond (q == 0 || nat_lt (best_size (best_of (b s d))) q) (Err (refused_at Take TooMany))
+    (cond (q == 0 || nat_lt n q) (Err (refused_at Take TooMany))
     (Ok tt))
+
+abbrev pub take_answer : Lots → ℕ → Side → ℕ → Done
+take_answer b s d q = take_test s (best_size (best_of (b s d))) q
 
 -- less than its size is gone from the first lot, and the others stand
 abbrev pub Reduced : ℕ → List Lot → List Lot → Type 0

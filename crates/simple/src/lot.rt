@@ -1,6 +1,8 @@
 // Sides, lots and what is best of them.
-ghost use Rattle.std.specs.Prelude.{◌≡◌};
+ghost use Rattle.std.specs.Prelude.{◌≡◌, ◌+◌, ◌≤◌};
+ghost use Rattle.simple.specs.Limits.{side_limit};
 ghost use Rattle.simple.specs.Lots.{better, precedes};
+ghost use Rattle.simple.specs.Best.{best_size, customer_part, customer_size, joined};
 
 // The two sides of a series.
 #[derive(Clone, Copy, PartialEq, Eq, Debug)]
@@ -38,6 +40,14 @@ impl Lot {
         side.is_better(self.price, other.price)
             || self.price == other.price && (self.customer || !other.customer)
     }
+
+    // The Priority Customers' part of its size.
+    pub fn customer_size(self) -> u32
+        ensures is { result ≡ customer_size self }
+        ensures part { result ≤ self.size }
+    {
+        if self.customer { self.size } else { 0 }
+    }
 }
 
 // The best of a side: its price, the contracts at that price, and the Priority Customers' part of them.
@@ -46,4 +56,28 @@ pub struct Best {
     pub price: u32,
     pub size: u32,
     pub customer: u32,
+}
+
+impl Best {
+    // What is best of a side once a lot follows those of which this is best.
+    pub fn join(best: Option<Best>, lot: Lot) -> Option<Best>
+        requires { (best_size best + lot.size ≤ side_limit) × (customer_part best ≤ best_size best) }
+        ensures answer { result ≡ joined best lot }
+        ensures size { best_size result ≤ best_size best + lot.size }
+        ensures part { customer_part result ≤ best_size result }
+    {
+        match best {
+            None => Some(Best {
+                price: lot.price,
+                size: lot.size,
+                customer: lot.customer_size(),
+            }),
+            Some(best) if lot.price == best.price => Some(Best {
+                price: best.price,
+                size: best.size + lot.size,
+                customer: best.customer + lot.customer_size(),
+            }),
+            best => best,
+        }
+    }
 }

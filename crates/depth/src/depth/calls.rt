@@ -1,7 +1,7 @@
 //! The calls of a depth book.
 
 ghost use Rattle.std.specs.Prelude.{◌≡◌, ℕ, ◌+◌, [], length};
-ghost use Rattle.simple.specs.Lots.{lot_at, empty_book};
+ghost use Rattle.simple.specs.Lots.{empty_book};
 ghost use Rattle.simple.specs.Take.{after, take_answer, taken};
 ghost use Rattle.depth.specs.Lots.{lots_of};
 ghost use Rattle.depth.specs.Meaning.{standing, depth_lots, posted_count, places, counts, depth_lawful};
@@ -14,7 +14,7 @@ use crate::side;
 use lots::PostedLot;
 use ranked::RankedList;
 use refusals::{Reason, Refusal, Station};
-use simple::{Best, Lot, Side, SimpleBook};
+use simple::{Best, Lot, Side, SimpleBook, allow_take};
 
 impl<'a> DepthBook<'a> {
     /// A book with no lot, however the memory was filled.
@@ -31,25 +31,13 @@ impl<'a> DepthBook<'a> {
     }
 
     /// Posts a lot behind those of its price and class, and answers its number.
-    pub fn post(
-        &mut self,
-        series: u32,
-        side: Side,
-        customer: bool,
-        price: u32,
-        size: u32,
-    ) -> Result<u32, Refusal>
-        ensures answer { result ≡ post_answer (places self.old) (standing self.old) (posted_count self.old) series side (lot_at price size customer) }
-        ensures standing { standing self.new ≡ after result (with_posted (standing self.old) series side (lot_at price size customer) (posted_count self.old + 1)) (standing self.old) }
-        ensures lots { depth_lots self.new ≡ after result (with_lot (depth_lots self.old) series side (lot_at price size customer)) (depth_lots self.old) }
+    pub fn post(&mut self, series: u32, side: Side, lot: Lot) -> Result<u32, Refusal>
+        ensures answer { result ≡ post_answer (places self.old) (standing self.old) (posted_count self.old) series side lot }
+        ensures standing { standing self.new ≡ after result (with_posted (standing self.old) series side lot (posted_count self.old + 1)) (standing self.old) }
+        ensures lots { depth_lots self.new ≡ after result (with_lot (depth_lots self.old) series side lot) (depth_lots self.old) }
         ensures posted { posted_count self.new ≡ after result (posted_count self.old + 1) (posted_count self.old) }
         ensures places { places self.new ≡ places self.old }
     {
-        let lot = Lot {
-            price,
-            size,
-            customer,
-        };
         let number = self.admit(series, side, lot)?;
         self.put(series, side, lot, number);
         Ok(number)
@@ -79,7 +67,7 @@ impl<'a> DepthBook<'a> {
         ensures lots { depth_lots self.new ≡ after result (taken (depth_lots self.old) series side quantity) (depth_lots self.old) }
         ensures counts { counts self.new ≡ counts self.old }
     {
-        self.allow(series, side, quantity)?;
+        allow_take(series, side::best(self.of_side(series, side)), quantity)?;
         self.reduce(series, side, quantity);
         Ok(())
     }
@@ -95,7 +83,7 @@ impl<'a> SimpleBook for DepthBook<'a> {
     ghost frame = { counts };
 
     fn best(&mut self, series: u32, side: Side) -> Option<Best> {
-        side::best(self.from_side(series, side), series, side)
+        side::best(self.of_side(series, side))
     }
 
     fn take(&mut self, series: u32, side: Side, quantity: u32) -> Result<(), Refusal> {

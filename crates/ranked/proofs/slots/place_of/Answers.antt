@@ -1,13 +1,21 @@
--- `place_of`: the walk goes on past entries that are ahead.
-use Rattle.std.proofs.Common.{sym, arith}
-use Rattle.ranked.proofs.Finds.{front_more, front_here, front_all}
+-- `place_of`: the first entry that is not ahead of e.
+use Rattle.std.proofs.Common.{◌≡◌, ◌+◌, not, length, ap, ◌∙◌, rules, arith}
+use Rattle.std.specs.List.{position_from}
+use Rattle.std.specs.Option.{unwrap_or}
+use Rattle.std.proofs.lemmas.Iterator.{YieldsList-from_slice}
+use Rattle.std.proofs.lemmas.Iterator.Search.{position_from_yields_List}
+use Rattle.std.proofs.lemmas.Iterator.Adapters.{position_from-zero}
+use Rattle.ranked.specs.Ranking.{place_of}
+use Rattle.ranked.proofs.Finds.{place_found}
 use Rattle.ranked.proofs.slots.place_of.Goals as goal
 
-pub loop-i-preserved : goal.loop-i-preserved
-loop-i-preserved g c = front_more _ _ _ c.loop-i.invariant c.index-entries-i.result c.loop-i-test.true c.index-entries-i.is (sym c.if-not-is_ahead.ensures)
-
-pub returns-then-not-is_ahead : goal.returns-then-not-is_ahead
-returns-then-not-is_ahead g c = front_here _ _ _ c.loop-i.invariant c.index-entries-i.result c.loop-i-test.true c.index-entries-i.is (sym c.if-not-is_ahead.ensures)
-
 pub returns : goal.returns
-returns g c = let all = front_all _ _ _ c.loop-i.invariant c.loop-i-test.false in omega arith
+returns g c =
+    let ahead = g.E.Ranked.ahead in
+    let e = c.args.e.now in
+    let xs = c.args.entries.now in
+    let found : c.position.result ≡ position_from (λ x. not (ahead x e)) 0 xs =
+    position_from_yields_List (λ x. not (ahead x e)) _ _ c.position.result c.position.ensures.ran (YieldsList-from_slice _ c.iter.ensures.rest) (λ x b q k. search rules)
+    ∙ position_from-zero (λ x. not (ahead x e)) xs in
+    let place : unwrap_or c.position.result (length xs) ≡ 0 + place_of ahead e xs = ap (λ o. unwrap_or o (length xs)) found ∙ place_found ahead e 0 xs (length xs) (omega arith) in
+    omega (arith, c.unwrap_or.ensures, place)

@@ -7,21 +7,30 @@ use Rattle.ranked.proofs.Inserts.{insert_is, place_within, lawful_insertion}
 use Rattle.ranked.proofs.Shifts.{shifted_up}
 use Rattle.ranked.proofs.slots.put_in.Goals as goal
 
-pub loop-k-init : goal.loop-k-init
-loop-k-init g c = let le = place_within g.E.Ranked.ahead c.args.e c.args.slots.now c.args.n in search rules
+pub overflow_add-place : goal.overflow_add-place
+overflow_add-place g c = let le = place_within g.E.Ranked.ahead c.args.e c.args.slots.now c.args.n in search rules
+
+pub copy_within-requires : goal.copy_within-requires
+copy_within-requires g c = let le = place_within g.E.Ranked.ahead c.args.e c.args.slots.now c.args.n in search rules
+
+pub offset_bounds-slots-place : goal.offset_bounds-slots-place
+offset_bounds-slots-place g c = let le = place_within g.E.Ranked.ahead c.args.e c.args.slots.now c.args.n in search rules
+
+pub bounds-slots-place : goal.bounds-slots-place
+bounds-slots-place g c = let le = place_within g.E.Ranked.ahead c.args.e c.args.slots.now c.args.n in search rules
 
 pub returns : goal.returns
 returns g c =
     let ahead = g.E.Ranked.ahead in
     let serial = g.E.Ranked.serial in
     let n = c.args.n in
+    let i = c.args.place in
     let e = c.args.e in
     let was = take n c.args.slots.now in
     let le = place_within ahead e c.args.slots.now n in
-    let is : take (n + 1) (set c.loop-k.slots c.args.place e) ≡ ranked_insert ahead e was =
-    shifted_up c.args.slots.now c.loop-k.slots n c.args.place c.loop-k.auto.slots e (omega arith) c.requires.within
-    (λ j d h. c.loop-k.invariant.3 j d (omega arith))
-    (λ j d h k. c.loop-k.invariant.4 j d (omega arith) k)
+    let is : take (n + 1) (set c.copy_within.new.self i e) ≡ ranked_insert ahead e was =
+    ap (λ xs. take (n + 1) (set xs i e)) c.copy_within.ensures.after
+    ∙ shifted_up c.args.slots.now n i e (omega arith) c.requires.within
     ∙ ap (λ i. insert was i e) c.requires.place
     ∙ sym (insert_is ahead e was) in
     let laws = lawful_insertion ahead e g.met.E.Ranked.transitive serial g.met.E.Ranked.connected was in

@@ -1,7 +1,7 @@
 -- The side is written with one of its two quotes set.
 use Rattle.std.proofs.Common.{◌≡◌, ap, ◌∙◌}
 use Rattle.simple.specs.Lots.{with_side}
-use Rattle.boards.specs.Board.{board_lots, quote_lot, requoted, quoted}
+use Rattle.boards.specs.Board.{board_lots, requoted, quoted}
 use Rattle.boards.proofs.Requotes.{quote_sets}
 use Rattle.boards.proofs.board.QuoteBoard.set.Goals as goal
 
@@ -10,6 +10,6 @@ returns c =
     let b = board_lots c.args.self.now in
     let s = c.args.series in
     let d = c.args.side in
-    let l = quote_lot c.args.customer c.args.quote in
+    let l = c.args.lot in
     let lots : board_lots c.put.new.self ≡ quoted b s d l = c.put.ensures ∙ ap (with_side b s d) (c.with.ensures d ∙ ap (requoted d l) c.quotes-quotes.ensures) in
     record { lots = lots; sets = quote_sets b (board_lots c.put.new.self) s d l lots }

@@ -4,8 +4,7 @@ use Rattle.std.proofs.lemmas.Bool.{eq-eqb}
 use Rattle.simple.specs.declared.lot.Lot.{Lot}
 use Rattle.simple.specs.declared.lot.Best.{Best}
 use Rattle.simple.specs.Lots.{contracts}
-use Rattle.simple.specs.Best.{at_price, customers, best_of}
-use Rattle.depth.specs.Running.{joined}
+use Rattle.simple.specs.Best.{at_price, customers, best_of, joined}
 
 -- what is best once more lots follow
 abbrev pub best_on : Option Best → List Lot → Option Best

@@ -1,0 +1,2 @@
+-- The lemmas on simple books.
+pub mod Bests
