@@ -101,6 +101,9 @@ impl fmt::Display for Tally {
             warnings,
             errors: _,
         } = *self;
-        write!(f, "messages {messages} read {read} refused {refused} warnings {warnings}")
+        write!(
+            f,
+            "messages {messages} read {read} refused {refused} warnings {warnings}"
+        )
     }
 }

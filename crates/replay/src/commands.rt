@@ -122,7 +122,9 @@ fn command_named(name: &[u8], words: &[&[u8]]) -> Result<Command, Complaint>
         b"best" => best_words(words).map(Command::ToLayer),
         b"take" => take_words(words).map(Command::ToLayer),
         b"hold" => number_words(words).map(|series| Command::ToLayer(LayerCall::Hold(series))),
-        b"release" => number_words(words).map(|series| Command::ToLayer(LayerCall::Release(series))),
+        b"release" => number_words(words).map(|series| Command::ToLayer(LayerCall::Release(
+            series,
+        ))),
         b"book" => book_words(words).map(Command::Open),
         b"quote" => entry_words(words).map(|entry| Command::ToBook(BookCall::Quote(entry))),
         b"post" => entry_words(words).map(|entry| Command::ToBook(BookCall::Post(entry))),

@@ -3,7 +3,7 @@ use Rattle.std.proofs.lemmas.Iterator.Splits.{YieldsList-from_slice_split}
 use Rattle.std.proofs.lemmas.Iterator.Consumers.{map_from_collect, YieldsList-from_filter, YieldsList-at}
 use Rattle.std.proofs.lemmas.Result.{IfOk-weaker}
 use Rattle.std.specs.List.{filter, slice_split}
-use Rattle.text.specs.Words.{separates, lent, words_of, Words}
+use Rattle.text.specs.Words.{separates, lent, Words}
 use Rattle.text.proofs.Runs.{has_byte, has_byte_is, parts_are_words, words_run}
 use Rattle.text.proofs.words.words.Goals as goal
 
