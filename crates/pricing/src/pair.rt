@@ -54,14 +54,14 @@ fn search(
         return None;
     }
     let mut found = None;
-    // by rule an outer loop over net prices and an inner one over legs, left by its label; of steps, since a range and its `rev` are two types
+    // by rule an outer loop over net prices and an inner one over legs, left by a label; its prices by steps, since a range and its `rev` are two types
     'price: for step in 0..=cents_between(low, high) {
         let price = nth_price(buy_is_older, low, high, step);
         let mut rest = cents_between(price, net_offer);
         let mut prices = [0; 4];
         let mut matched = false;
         let mut improved = false;
-        // the proof of `legs.iter().zip(prices.iter_mut())` did not close: nothing is known of an array after an adapter of its iter_mut
+        // by place, as `read_legs`: the proof of a zip with `prices.iter_mut()` did not close
         for (i, leg) in legs.iter().enumerate() {
             let cents = leg.cents_of(rest);
             rest -= leg.ratio * cents;
