@@ -10,9 +10,6 @@ use Rattle.pricing.specs.Prices.{cents, price_at, left, rest_after, by_leg, at_c
 pub cents_fit : (m : LegMarket) (rest : ℕ) → m.ratio * cents m rest ≤ rest
 cents_fit m rest = let h : cents m rest ≤ rest / m.ratio = omega arith in le_trans (mul-le-mul_left m.ratio h) (mul-div-le rest m.ratio)
 
-pub value_bound : (r x : ℕ) → r ≤ 8 → x ≤ 1000000 → r * x ≤ 8000000
-value_bound r x h l = mul-le-mul h l
-
 -- the leg at a place
 abbrev pub leg_at : List LegMarket → ℕ → LegMarket
 leg_at ms i = get_or ms i (record { bought = false; ratio = 0; bid = record { price = 0; size = 0; customer = 0 }; offer = record { price = 0; size = 0; customer = 0 } })
