@@ -61,7 +61,7 @@ fn search(
         let mut prices = [0; 4];
         let mut matched = false;
         let mut improved = false;
-        // by place, as `read_legs`: the proof of a zip with `prices.iter_mut()` did not close
+        // by place, as in `read_legs`: nothing is known of an array after an adapter of its iter_mut, so no proof of a zip closes
         for (i, leg) in legs.iter().enumerate() {
             let cents = leg.cents_of(rest);
             rest -= leg.ratio * cents;
