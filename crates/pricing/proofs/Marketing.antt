@@ -1,35 +1,14 @@
 -- The markets of the legs, one leg after another.
-use Rattle.std.proofs.Common.{◌≡◌, ℕ, ◌+◌, ◌<◌, ◌≤◌, true, ◌&&◌, leb, List, [], ◌∷◌, ◌++◌, length, get_or, take, drop, set, Some, None, Option, sym, refl, ap, ◌∙◌, arith}
-use Rattle.std.proofs.lemmas.List.{drop_more, drop_all, take_more_set, append_assoc, append-nil, length-take-le}
-use Rattle.std.proofs.lemmas.Bool.{and_parts, and_from, le-leb}
-use Rattle.simple.specs.declared.lot.Side.{Side}
-use Rattle.simple.specs.declared.lot.Best.{Best}
-use Rattle.simple.specs.Limits.{highest_price}
-use Rattle.simple.specs.Lots.{Lots, Lawful}
-use Rattle.simple.specs.Best.{best_of, Tells}
-use Rattle.simple.specs.BestTold.{best_told}
+use Rattle.std.proofs.Common.{◌≡◌, ℕ, ◌+◌, ◌<◌, ◌≤◌, true, List, [], ◌∷◌, ◌++◌, length, get_or, take, drop, set, Some, None, Option, sym, refl, ap, ◌∙◌}
+use Rattle.std.proofs.lemmas.List.{drop_more, drop_all, take_more_set, append_assoc, append-nil}
+use Rattle.std.proofs.lemmas.Bool.{and_parts, and_from}
+use Rattle.simple.specs.Lots.{Lots}
 use Rattle.strategies.specs.declared.leg.Leg.{Leg}
 use Rattle.strategies.specs.Legs.{blank}
 use Rattle.pricing.specs.declared.market.LegMarket.{LegMarket}
-use Rattle.pricing.specs.Legs.{is_open}
-use Rattle.pricing.specs.Sound.{leg_sound, legs_sound, Sound}
+use Rattle.pricing.specs.Sound.{leg_sound, legs_sound}
 use Rattle.pricing.specs.Reading.{with_front, leg_market, markets_of, Closed}
 use Rattle.pricing.proofs.Search.{none_some}
-
--- a best is priced as a lot may be
-pub price_within : (b : Lots) → Lawful b → (s : ℕ) (d : Side) (x : Best) → Some x ≡ best_of (b s d) → x.price ≤ highest_price
-price_within b law s d x e = go (best_of (b s d)) (best_told b law s d) e
-  where
-    go : (o : Option Best) → Tells d (b s d) o → Some x ≡ o → x.price ≤ highest_price
-    go None t e = none_some x (sym e)
-    go (Some y) t e = let same : x ≡ y = cc in rw same t.most
-
-pub leg_sounds : (m : LegMarket) → is_open m ≡ true → 1 ≤ m.ratio → m.ratio ≤ 8 → m.offer ≤ 1000000 → leg_sound m ≡ true
-leg_sounds m e some most high =
-    and_from (is_open m) ((leb 1 m.ratio && leb m.ratio 8) && leb m.offer 1000000) e
-    (and_from (leb 1 m.ratio && leb m.ratio 8) (leb m.offer 1000000)
-    (and_from (leb 1 m.ratio) (leb m.ratio 8) (le-leb 1 m.ratio some) (le-leb m.ratio 8 most))
-    (le-leb m.offer 1000000 high))
 
 abbrev pub prefixed : {X : Type 0} → List X → Option (List X) → Option (List X)
 prefixed xs None = None
@@ -62,11 +41,6 @@ sound_more i four m l a s = rw (take_more_set four i m l) (sound_push (take i fo
 pub markets_all : (b : Lots) (legs : List Leg) (i : ℕ) (four : List LegMarket) → length legs ≤ i → markets_of b legs ≡ prefixed (take i four) (markets_of b (drop i legs)) → markets_of b legs ≡ Some (take i four)
 unfolding markets_of
 markets_all b legs i four h inv = inv ∙ rw (drop_all i legs h) (ap Some (append-nil (take i four)))
-
-pub sound_all : (i : ℕ) (four : List LegMarket) → i ≤ 4 → length four ≡ 4 → legs_sound (take i four) ≡ true → Sound (take i four)
-sound_all i four h l s =
-    let n : length (take i four) ≡ i = length-take-le i four (omega arith) in
-    and_from (leb (length (take i four)) 4) (legs_sound (take i four)) (le-leb (length (take i four)) 4 (omega arith)) s
 
 pub closed : (b : Lots) (legs : List Leg) (r : Option (List LegMarket)) → r ≡ markets_of b legs → Closed b legs r
 closed b legs r e none p ok = none_some ok.0 (sym none ∙ e ∙ ok.1)

@@ -1,5 +1,5 @@
--- A loop that prices one leg after another: what holds once i legs are priced, its start, its step and its end.
-use Rattle.std.proofs.Common.{◌≡◌, ℕ, ◌+◌, ◌-◌, ◌*◌, ◌<◌, ◌≤◌, Bool, true, false, not, ◌||◌, List, [], ◌∷◌, ◌++◌, length, take, drop, set, replicate, sym, refl, ap, ◌∙◌, append-nil, arith, length-set}
+-- A loop that prices one leg after another: what holds once i legs are priced, its step and its end.
+use Rattle.std.proofs.Common.{◌≡◌, ℕ, ◌+◌, ◌-◌, ◌*◌, ◌<◌, ◌≤◌, Bool, true, false, not, ◌||◌, List, [], ◌++◌, length, take, drop, set, replicate, sym, refl, ap, ◌∙◌, append-nil, arith, length-set}
 use Rattle.std.proofs.lemmas.List.{drop-set-lt, drop-replicate, drop-drop, drop_all, take-append-drop}
 use Rattle.pricing.specs.declared.market.LegMarket.{LegMarket}
 use Rattle.pricing.specs.Legs.{in_places}
@@ -14,9 +14,6 @@ pub record Priced (ms : List LegMarket) (i start rest : ℕ) (prices : List ℕ)
   pub less : rest ≤ start
   pub met_is : (met || matched (drop i ms) (by_leg (drop i ms) rest)) ≡ matched ms (by_leg ms start)
   pub better_is : (better || improved (drop i ms) (by_leg (drop i ms) rest)) ≡ improved ms (by_leg ms start)
-
-pub priced_start : (ms : List LegMarket) (start : ℕ) → Priced ms 0 start start (0 ∷ 0 ∷ 0 ∷ 0 ∷ []) false false
-priced_start ms start = record { remains = refl; front = refl; back = refl; four = refl; less = omega arith; met_is = refl; better_is = refl }
 
 or_step : (a x m₀ m₁ : Bool) → m₀ ≡ (x || m₁) → ((a || x) || m₁) ≡ (a || m₀)
 or_step true x m₀ m₁ q = refl

@@ -10,22 +10,22 @@ few ms h = leb-true (length ms) 4 (and_parts (leb (length ms) 4) (legs_sound ms)
 
 pub record LegTold (m : LegMarket) : Type 0 where
   pub opened : is_open m ≡ true
-  pub crossed : m.bid < m.offer
+  pub crossed : m.bid.price < m.offer.price
   pub some : 1 ≤ m.ratio
   pub most : m.ratio ≤ 8
-  pub high : m.offer ≤ 1000000
+  pub high : m.offer.price ≤ 1000000
 
 pub leg_told : (m : LegMarket) → leg_sound m ≡ true → LegTold m
 leg_told m e =
-    let parts = and_parts (is_open m) ((leb 1 m.ratio && leb m.ratio 8) && leb m.offer 1000000) e in
-    let bounds = and_parts (leb 1 m.ratio && leb m.ratio 8) (leb m.offer 1000000) parts.1 in
+    let parts = and_parts (is_open m) ((leb 1 m.ratio && leb m.ratio 8) && leb m.offer.price 1000000) e in
+    let bounds = and_parts (leb 1 m.ratio && leb m.ratio 8) (leb m.offer.price 1000000) parts.1 in
     let ratio = and_parts (leb 1 m.ratio) (leb m.ratio 8) bounds.0 in
     record {
       opened = parts.0;
-      crossed = ltb-true m.bid m.offer (and_parts (ltb m.bid m.offer) (leb (width m) 500) parts.0).0;
+      crossed = ltb-true m.bid.price m.offer.price (and_parts (ltb m.bid.price m.offer.price) (leb (width m) 500) parts.0).0;
       some = leb-true 1 m.ratio ratio.0;
       most = leb-true m.ratio 8 ratio.1;
-      high = leb-true m.offer 1000000 bounds.1;
+      high = leb-true m.offer.price 1000000 bounds.1;
     }
 
 at : (ms : List LegMarket) (i : ℕ) (d : LegMarket) → legs_sound ms ≡ true → i < length ms → leg_sound (get_or ms i d) ≡ true

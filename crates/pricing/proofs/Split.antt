@@ -1,9 +1,10 @@
 -- One leg after another: the definitions over the legs from a place on.
-use Rattle.std.proofs.Common.{◌≡◌, ℕ, ◌+◌, ◌*◌, ◌/◌, ◌<◌, ◌≤◌, false, ◌||◌, List, [], ◌∷◌, ◌++◌, length, get_or, take, drop, set, ◌+ℤ◌, ap, append_assoc, le_trans, mul-le-mul, mul-le-mul_left, arith}
+use Rattle.std.proofs.Common.{◌≡◌, ℕ, ◌+◌, ◌*◌, ◌/◌, ◌<◌, ◌≤◌, Bool, true, false, ◌||◌, List, [], ◌∷◌, ◌++◌, length, get_or, take, drop, set, pos, ◌+ℤ◌, refl, ap, append_assoc, le_trans, mul-le-mul, mul-le-mul_left, arith}
 use native.Mathlib.Nat.{mul-div-le}
 use Rattle.std.proofs.lemmas.List.{drop_more, take_more_set}
 use Rattle.pricing.specs.declared.market.LegMarket.{LegMarket}
-use Rattle.pricing.specs.Legs.{bid_part, offer_part, net_bid, net_offer}
+use Rattle.pricing.specs.Legs.{bid_part, offer_part, part_taken, net_bid, net_offer}
+use Rattle.pricing.specs.Legging.{net_taken}
 use Rattle.pricing.specs.Prices.{cents, price_at, left, rest_after, by_leg, at_customer, between, matched, improved}
 
 pub cents_fit : (m : LegMarket) (rest : ℕ) → m.ratio * cents m rest ≤ rest
@@ -14,7 +15,13 @@ value_bound r x h l = mul-le-mul h l
 
 -- the leg at a place
 abbrev pub leg_at : List LegMarket → ℕ → LegMarket
-leg_at ms i = get_or ms i (record { bought = false; ratio = 0; bid = 0; offer = 0; bid_size = 0; offer_size = 0; customer_bid = false; customer_offer = false })
+leg_at ms i = get_or ms i (record { bought = false; ratio = 0; bid = record { price = 0; size = 0; customer = 0 }; offer = record { price = 0; size = 0; customer = 0 } })
+
+-- no legs add nothing
+pub net_none : (buy : Bool) → net_taken [] buy ≡ pos 0
+unfolding net_bid net_offer
+net_none true = refl
+net_none false = refl
 
 module _ (ms : List LegMarket) (i : ℕ) (h : i < length ms) where
   abbrev m : LegMarket
@@ -47,3 +54,7 @@ module _ (ms : List LegMarket) (i : ℕ) (h : i < length ms) where
   pub offer_more : net_offer (drop i ms) ≡ offer_part m +ℤ net_offer (drop (i + 1) ms)
   unfolding net_offer
   offer_more = rw leg_split
+
+  pub net_more : (buy : Bool) → net_taken (drop i ms) buy ≡ part_taken buy m +ℤ net_taken (drop (i + 1) ms) buy
+  net_more true = offer_more
+  net_more false = bid_more

@@ -1,30 +1,21 @@
 -- The bests that an order takes, one leg after another.
-use Rattle.std.proofs.Common.{◌≡◌, ℕ, suc, ◌+◌, ◌-◌, ◌*◌, ◌/◌, ◌<◌, ◌≤◌, min, Bool, true, false, cond, ◌||◌, leb, List, [], ◌∷◌, ◌++◌, map, length, take, drop, set, replicate, ℤ, ◌≤ℤ◌, MatchBool, fold, sym, refl, ap, ◌∙◌, le_trans, mul_comm, mul-le-mul_left, le-div_iff_mul-le, arith}
+use Rattle.std.proofs.Common.{◌≡◌, ℕ, suc, ◌+◌, ◌-◌, ◌*◌, ◌/◌, ◌<◌, ◌≤◌, min, Bool, true, false, cond, leb, List, [], ◌∷◌, ◌++◌, map, length, take, set, replicate, ℤ, ◌≤ℤ◌, MatchBool, fold, sym, refl, ap, ◌∙◌, le_trans, mul_comm, mul-le-mul_left, le-div_iff_mul-le, arith}
 use native.Mathlib.Nat.{mul-div-le}
 use Rattle.std.specs.List.{AllByRecursion}
-use Rattle.std.proofs.lemmas.List.{map_more, set_at, append_assoc, length-map, length-take-le, take_all, drop_all}
+use Rattle.std.proofs.lemmas.List.{map_more, set_at, append_assoc, length-map, length-take-le, take_all}
 use Rattle.std.proofs.lemmas.Int.{ints}
-use Rattle.std.proofs.lemmas.List.Sums.{fold_more}
 use Rattle.std.proofs.lemmas.Bool.{and_parts, true≢false}
 use Rattle.pricing.specs.declared.market.LegMarket.{LegMarket}
 use Rattle.pricing.specs.Sound.{leg_sound, legs_sound, Sound}
 use Rattle.pricing.specs.Legging.{price_taken, size_taken, available, most, reaches, legged_quantity, prices_taken, Fits, Greatest, Eased}
-use Rattle.pricing.specs.Display.{customer_taken, meets_customer}
 use Rattle.pricing.proofs.Soundness.{leg_told}
-use Rattle.pricing.proofs.Split.{leg_at, leg_split}
+use Rattle.pricing.proofs.Split.{leg_at}
 
 abbrev lesser : Bool → ℕ → LegMarket → ℕ
 lesser buy = λ n m. min n (available buy m)
 
--- the loops over the legs
+-- the prices so far, and none for the legs that are left
 module _ (ms : List LegMarket) (buy : Bool) (i : ℕ) where
-  pub most_more : (q n a r : ℕ) → i < length ms → n ≡ fold (lesser buy) q (take i ms) → a ≡ available buy (leg_at ms i) → r ≡ min n a → r ≡ fold (lesser buy) q (take (i + 1) ms)
-  most_more q n a r h inv e f = f ∙ ap (λ k. min k a) inv ∙ ap (min (fold (lesser buy) q (take i ms))) e ∙ sym (fold_more (lesser buy) q ms i _ h)
-
-  pub most_all : (q n : ℕ) → length ms ≤ i → n ≡ fold (lesser buy) q (take i ms) → n ≡ most ms buy q
-  unfolding most
-  most_all q n h inv = inv ∙ ap (fold (lesser buy) q) (take_all i ms h)
-
   pub prices_more : (xs : List ℕ) (x : ℕ) → i < length ms → length ms ≤ 4 → xs ≡ map (price_taken buy) (take i ms) ++ replicate (4 - i) 0 → x ≡ price_taken buy (leg_at ms i) → set xs i x ≡ map (price_taken buy) (take (i + 1) ms) ++ replicate (4 - (i + 1)) 0
   prices_more xs x h f inv e =
       let front = map (price_taken buy) (take i ms) in
@@ -42,20 +33,6 @@ module _ (ms : List LegMarket) (buy : Bool) (i : ℕ) where
   prices_all xs h k inv =
       let same : i ≡ length ms = omega arith in
       inv ∙ ap (λ ys. map (price_taken buy) ys ++ replicate (4 - i) 0) (take_all i ms h) ∙ ap (λ n. map (price_taken buy) ms ++ replicate (4 - n) 0) same
-
-  customer_split : i < length ms → meets_customer (drop i ms) buy ≡ (customer_taken buy (leg_at ms i) || meets_customer (drop (i + 1) ms) buy)
-  unfolding meets_customer
-  customer_split h = ap (λ ys. meets_customer ys buy) (leg_split ms i h)
-
-  pub customer_here : i < length ms → meets_customer (drop i ms) buy ≡ meets_customer ms buy → true ≡ customer_taken buy (leg_at ms i) → true ≡ meets_customer ms buy
-  customer_here h inv e = sym (sym inv ∙ customer_split h ∙ rw (← e))
-
-  pub customer_more : i < length ms → meets_customer (drop i ms) buy ≡ meets_customer ms buy → false ≡ customer_taken buy (leg_at ms i) → meets_customer (drop (i + 1) ms) buy ≡ meets_customer ms buy
-  customer_more h inv e = sym (customer_split h ∙ rw (← e)) ∙ inv
-
-  pub customer_none : length ms ≤ i → meets_customer (drop i ms) buy ≡ meets_customer ms buy → false ≡ meets_customer ms buy
-  unfolding meets_customer
-  customer_none h inv = rw (drop_all i ms h) at inv
 
 -- the least of a quantity and of what each leg gives is the greatest that fits
 folded_least : (buy : Bool) (ms : List LegMarket) (q : ℕ) → fold (lesser buy) q ms ≤ q

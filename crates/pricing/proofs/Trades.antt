@@ -3,7 +3,7 @@ use Rattle.std.proofs.Common.{◌≡◌, ℕ, ◌+◌, ◌-◌, ◌*◌, ◌<◌
 use native.Mathlib.Nat.{mul-sub}
 use lib.Signed.{le_z}
 use Rattle.std.proofs.lemmas.Int.{ints, clamps}
-use Rattle.std.proofs.lemmas.Bool.{cases_lt, and_parts, true≢false, eqb-true, eq-eqb, ltb-true, or_left, or_right, or_cases, not-true}
+use Rattle.std.proofs.lemmas.Bool.{cases_lt, and_parts, true≢false, eqb-true, eq-eqb, ltb-true, lt-ltb, or_left, or_right, or_cases, not-true}
 use Rattle.std.specs.Option.{option_map}
 use Rattle.pricing.specs.declared.market.LegMarket.{LegMarket}
 use Rattle.pricing.specs.declared.market.NetPrice.{NetPrice}
@@ -18,25 +18,25 @@ clash : {X : Type 0} → true ≡ false → X
 clash e = absurd (true≢false e)
 
 -- one leg
-open_tells : (m : LegMarket) → is_open m ≡ true → m.bid < m.offer
-open_tells m e = ltb-true m.bid m.offer (and_parts (ltb m.bid m.offer) (leb (width m) 500) e).0
+open_tells : (m : LegMarket) → is_open m ≡ true → m.bid.price < m.offer.price
+open_tells m e = ltb-true m.bid.price m.offer.price (and_parts (ltb m.bid.price m.offer.price) (leb (width m) 500) e).0
 
-leg_in : (m : LegMarket) (k : ℕ) → m.bid < m.offer → k ≤ width m → InMarket m (price_at m k)
+leg_in : (m : LegMarket) (k : ℕ) → m.bid.price < m.offer.price → k ≤ width m → InMarket m (price_at m k)
 leg_in m k o h = go m.bought
   where
-    go : (b : Bool) → InMarket m (cond b (m.offer - k) (m.bid + k))
+    go : (b : Bool) → InMarket m (cond b (m.offer.price - k) (m.bid.price + k))
     go true = (omega arith, omega arith)
     go false = (omega arith, omega arith)
 
-leg_net : (m : LegMarket) (k : ℕ) → m.bid < m.offer → k ≤ width m → signed m (price_at m k) +ℤ pos (m.ratio * k) ≡ offer_part m
+leg_net : (m : LegMarket) (k : ℕ) → m.bid.price < m.offer.price → k ≤ width m → signed m (price_at m k) +ℤ pos (m.ratio * k) ≡ offer_part m
 leg_net m k o h = go m.bought
   where
-    fits : m.ratio * k ≤ m.ratio * m.offer
-    fits = let k≤ : k ≤ m.offer = omega arith in mul-le-mul_left m.ratio k≤
+    fits : m.ratio * k ≤ m.ratio * m.offer.price
+    fits = let k≤ : k ≤ m.offer.price = omega arith in mul-le-mul_left m.ratio k≤
 
-    go : (b : Bool) → cond b (pos (m.ratio * cond b (m.offer - k) (m.bid + k))) (neg_ℤ (pos (m.ratio * cond b (m.offer - k) (m.bid + k)))) +ℤ pos (m.ratio * k) ≡ cond b (pos (m.ratio * cond b m.offer m.bid)) (neg_ℤ (pos (m.ratio * cond b m.offer m.bid)))
-    go true = omega (arith, ints, mul-sub m.ratio m.offer k, fits)
-    go false = omega (arith, ints, mul-add m.ratio m.bid k)
+    go : (b : Bool) → cond b (pos (m.ratio * cond b (m.offer.price - k) (m.bid.price + k))) (neg_ℤ (pos (m.ratio * cond b (m.offer.price - k) (m.bid.price + k)))) +ℤ pos (m.ratio * k) ≡ cond b (pos (m.ratio * cond b m.offer.price m.bid.price)) (neg_ℤ (pos (m.ratio * cond b m.offer.price m.bid.price)))
+    go true = omega (arith, ints, mul-sub m.ratio m.offer.price k, fits)
+    go false = omega (arith, ints, mul-add m.ratio m.bid.price k)
 
 -- all legs
 legs_in : (ms : List LegMarket) (rest : ℕ) → free ms ≡ true → Each InMarket ms (by_leg ms rest)
@@ -57,15 +57,15 @@ legs_net (m ∷ ms) rest f =
 any_matched : (ms : List LegMarket) (xs : List ℕ) → Any AtCustomer ms xs → matched ms xs ≡ true
 any_matched [] xs a = absurd a
 any_matched (m ∷ ms) [] a = absurd a
-any_matched (m ∷ ms) (x ∷ xs) (inl (inl a)) = rw (eq-eqb x m.bid a.0, a.1)
-any_matched (m ∷ ms) (x ∷ xs) (inl (inr a)) = or_left (at_customer m x) (matched ms xs) (or_right (eqb x m.bid && m.customer_bid) (eqb x m.offer && m.customer_offer) (rw (eq-eqb x m.offer a.0, a.1)))
+any_matched (m ∷ ms) (x ∷ xs) (inl (inl a)) = rw (eq-eqb x m.bid.price a.0, lt-ltb 0 m.bid.customer a.1)
+any_matched (m ∷ ms) (x ∷ xs) (inl (inr a)) = or_left (at_customer m x) (matched ms xs) (or_right (eqb x m.bid.price && ltb 0 m.bid.customer) (eqb x m.offer.price && ltb 0 m.offer.customer) (rw (eq-eqb x m.offer.price a.0, lt-ltb 0 m.offer.customer a.1)))
 any_matched (m ∷ ms) (x ∷ xs) (inr a) = or_right (at_customer m x) (matched ms xs) (any_matched ms xs a)
 
 improved_any : (ms : List LegMarket) (xs : List ℕ) → improved ms xs ≡ true → Any Improving ms xs
 improved_any [] xs e = clash (sym e)
 improved_any (m ∷ ms) [] e = clash (sym e)
 improved_any (m ∷ ms) (x ∷ xs) e =
-    ⊎_elim (λ t. let b = and_parts (ltb m.bid x) (ltb x m.offer) t in inl (ltb-true m.bid x b.0, ltb-true x m.offer b.1))
+    ⊎_elim (λ t. let b = and_parts (ltb m.bid.price x) (ltb x m.offer.price) t in inl (ltb-true m.bid.price x b.0, ltb-true x m.offer.price b.1))
     (λ t. inr (improved_any ms xs t))
     (or_cases (between m x) (improved ms xs) e)
 

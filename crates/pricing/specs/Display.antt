@@ -1,16 +1,16 @@
 -- The price that an order shows.
-use Rattle.std.specs.Prelude.{Bool, false, cond, ◌||◌, List, [], ◌∷◌, ℤ, pos, ◌+ℤ◌, ◌-ℤ◌, Some, None, Option}
+use Rattle.std.specs.Prelude.{Bool, cond, List, ℤ, pos, ◌+ℤ◌, ◌-ℤ◌, Some, None, Option, nat_lt}
+use Rattle.std.specs.List.{list_any}
 use Rattle.pricing.specs.declared.market.LegMarket.{LegMarket}
 use Rattle.pricing.specs.Legging.{lifts, net_taken, reaches}
 
 -- a Priority Customer has part of the best size that the order would take of a leg
 abbrev pub customer_taken : Bool → LegMarket → Bool
-customer_taken buy m = cond (lifts buy m) m.customer_offer m.customer_bid
+customer_taken buy m = nat_lt 0 (cond (lifts buy m) m.offer.customer m.bid.customer)
 
 -- of some leg
 unfoldable pub meets_customer : List LegMarket → Bool → Bool
-meets_customer [] buy = false
-meets_customer (m ∷ ms) buy = customer_taken buy m || meets_customer ms buy
+meets_customer ms buy = list_any (customer_taken buy) ms
 
 -- one cent worse for the order: less for a buy, more for a sell
 abbrev pub a_cent_off : Bool → ℤ → ℤ

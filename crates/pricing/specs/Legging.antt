@@ -11,11 +11,11 @@ lifts buy m = cond buy m.bought (not m.bought)
 
 -- the price of the best that the order takes
 abbrev pub price_taken : Bool → LegMarket → ℕ
-price_taken buy m = cond (lifts buy m) m.offer m.bid
+price_taken buy m = cond (lifts buy m) m.offer.price m.bid.price
 
 -- its size
 abbrev pub size_taken : Bool → LegMarket → ℕ
-size_taken buy m = cond (lifts buy m) m.offer_size m.bid_size
+size_taken buy m = cond (lifts buy m) m.offer.size m.bid.size
 
 -- how many strategies it gives: size divided by ratio, rounded down
 abbrev pub available : Bool → LegMarket → ℕ

@@ -5,11 +5,11 @@ use Rattle.pricing.specs.Limits.{widest_market, leg_places}
 
 -- offer minus bid
 abbrev pub width : LegMarket → ℕ
-width m = m.offer - m.bid
+width m = m.offer.price - m.bid.price
 
 -- a leg is open when its bid is below its offer, and not too far below
 abbrev pub is_open : LegMarket → Bool
-is_open m = nat_lt m.bid m.offer && nat_le (width m) widest_market
+is_open m = nat_lt m.bid.price m.offer.price && nat_le (width m) widest_market
 
 -- a strategy is free when all its legs are open
 abbrev pub free : List LegMarket → Bool
@@ -28,11 +28,15 @@ net (m ∷ ms) (x ∷ xs) = signed m x +ℤ net ms xs
 
 -- what a leg costs a buyer of the strategy: a bought leg's offer, less a sold leg's bid
 abbrev pub offer_part : LegMarket → ℤ
-offer_part m = signed m (cond m.bought m.offer m.bid)
+offer_part m = signed m (cond m.bought m.offer.price m.bid.price)
 
 -- what a leg brings a seller of the strategy: the same with bid and offer exchanged
 abbrev pub bid_part : LegMarket → ℤ
-bid_part m = signed m (cond m.bought m.bid m.offer)
+bid_part m = signed m (cond m.bought m.bid.price m.offer.price)
+
+-- what a leg adds to the net price that an order takes
+abbrev pub part_taken : Bool → LegMarket → ℤ
+part_taken buy m = cond buy (offer_part m) (bid_part m)
 
 unfoldable pub net_offer : List LegMarket → ℤ
 net_offer [] = pos 0

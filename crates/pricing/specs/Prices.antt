@@ -9,7 +9,7 @@ cents m rest = min (width m) (rest / m.ratio)
 
 -- a bought leg is priced so many cents below its offer, a sold leg above its bid
 abbrev pub price_at : LegMarket → ℕ → ℕ
-price_at m k = cond m.bought (m.offer - k) (m.bid + k)
+price_at m k = cond m.bought (m.offer.price - k) (m.bid.price + k)
 
 -- the rest that a leg leaves
 abbrev pub left : LegMarket → ℕ → ℕ
@@ -27,11 +27,11 @@ by_leg (m ∷ ms) rest = price_at m (cents m rest) ∷ by_leg ms (left m rest)
 
 -- the price is a best bid or offer of which a Priority Customer has a part
 abbrev pub at_customer : LegMarket → ℕ → Bool
-at_customer m x = (x == m.bid && m.customer_bid) || (x == m.offer && m.customer_offer)
+at_customer m x = (x == m.bid.price && nat_lt 0 m.bid.customer) || (x == m.offer.price && nat_lt 0 m.offer.customer)
 
 -- the price lies strictly between bid and offer
 abbrev pub between : LegMarket → ℕ → Bool
-between m x = nat_lt m.bid x && nat_lt x m.offer
+between m x = nat_lt m.bid.price x && nat_lt x m.offer.price
 
 -- some leg's price is one at which a Priority Customer waits
 abbrev pub matched : List LegMarket → List ℕ → Bool

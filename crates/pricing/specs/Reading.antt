@@ -1,5 +1,5 @@
--- The markets of a strategy's legs, as a simple book has them. Only this file says what is read of a best.
-use Rattle.std.specs.Prelude.{◌≡◌, true, cond, List, [], ◌∷◌, ℤ, Some, None, Option, nat_lt}
+-- The markets of a strategy's legs, as a simple book has them.
+use Rattle.std.specs.Prelude.{◌≡◌, true, cond, List, [], ◌∷◌, ℤ, Some, None, Option}
 use Rattle.std.specs.Option.{option_map}
 use Rattle.simple.specs.declared.lot.Side.TheVariants.{Bid, Offer}
 use Rattle.simple.specs.declared.lot.Best.{Best}
@@ -12,16 +12,7 @@ use Rattle.pricing.specs.Prices.{admissible}
 
 -- a leg against its best bid and its best offer
 abbrev pub market : Leg → Best → Best → LegMarket
-market leg b o = record {
-  bought = leg.bought;
-  ratio = leg.ratio;
-  bid = b.price;
-  offer = o.price;
-  bid_size = b.size;
-  offer_size = o.size;
-  customer_bid = nat_lt 0 b.customer;
-  customer_offer = nat_lt 0 o.customer;
-}
+market leg b o = record { bought = leg.bought; ratio = leg.ratio; bid = b; offer = o }
 
 -- nothing unless the leg is open
 abbrev pub if_open : LegMarket → Option LegMarket

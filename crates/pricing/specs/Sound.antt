@@ -8,7 +8,7 @@ use Rattle.pricing.specs.Legs.{is_open}
 
 -- a leg that is open, with a ratio and prices that a strategy and a book can have
 abbrev pub leg_sound : LegMarket → Bool
-leg_sound m = is_open m && ((nat_le 1 m.ratio && nat_le m.ratio highest_ratio) && nat_le m.offer highest_price)
+leg_sound m = is_open m && ((nat_le 1 m.ratio && nat_le m.ratio highest_ratio) && nat_le m.offer.price highest_price)
 
 abbrev pub legs_sound : List LegMarket → Bool
 legs_sound [] = true

@@ -20,15 +20,15 @@ Any P (m ∷ ms) (x ∷ xs) = P m x ⊎ Any P ms xs
 
 -- from the best bid to the best offer
 abbrev pub InMarket : LegMarket → ℕ → Type 0
-InMarket m x = (m.bid ≤ x) × (x ≤ m.offer)
+InMarket m x = (m.bid.price ≤ x) × (x ≤ m.offer.price)
 
 -- strictly between them
 abbrev pub Improving : LegMarket → ℕ → Type 0
-Improving m x = (m.bid < x) × (x < m.offer)
+Improving m x = (m.bid.price < x) × (x < m.offer.price)
 
 -- a best bid or offer of which a Priority Customer has a part
 abbrev pub AtCustomer : LegMarket → ℕ → Type 0
-AtCustomer m x = ((x ≡ m.bid) × (m.customer_bid ≡ true)) ⊎ ((x ≡ m.offer) × (m.customer_offer ≡ true))
+AtCustomer m x = ((x ≡ m.bid.price) × (0 < m.bid.customer)) ⊎ ((x ≡ m.offer.price) × (0 < m.offer.customer))
 
 -- what holds of the leg prices of an admissible price
 pub record Fair (ms : List LegMarket) (p : ℤ) (xs : List ℕ) : Type 0 where

@@ -1,77 +1,33 @@
 // What an order trades at with the simple book, and how much of it.
-ghost use Rattle.std.specs.Prelude.{◌≡◌, true, pos, neg_ℤ, ◌≤ℤ◌};
-ghost use Rattle.pricing.specs.Sound.{leg_sound, Sound};
+ghost use Rattle.std.specs.Prelude.{◌≡◌};
 ghost use Rattle.pricing.specs.Markets.{legs_of};
-ghost use Rattle.pricing.specs.Legging.{lifts, available, price_taken, most, net_taken, reaches, legged_quantity, prices_taken, taken_at, Greatest, Eased};
+ghost use Rattle.pricing.specs.Legging.{most, reaches, legged_quantity, prices_taken, taken_at, Greatest, Eased};
 
-use crate::market::{LegMarket, NetPrice};
+use crate::market::NetPrice;
 use crate::strategy_market::StrategyMarket;
 
-impl LegMarket {
-    // Whether an order takes the leg's offer, and not its bid.
-    pub(crate) fn is_lifted(&self, buy: bool) -> bool
-        ensures { result ≡ lifts buy self.now }
-    {
-        if buy { self.bought } else { !self.bought }
-    }
-
-    // How many strategies the best that an order takes gives.
-    fn available(&self, buy: bool) -> u32
-        requires { leg_sound self.now ≡ true }
-        ensures { result ≡ available buy self.now }
-    {
-        let size = if self.is_lifted(buy) {
-            self.offer_size
-        } else {
-            self.bid_size
-        };
-        size / self.ratio
-    }
-
-    // The price of the best that an order takes.
-    fn price_taken(&self, buy: bool) -> u32
-        ensures { result ≡ price_taken buy self.now }
-    {
-        if self.is_lifted(buy) {
-            self.offer
-        } else {
-            self.bid
-        }
-    }
-}
-
-// The most of a quantity that the legs give.
-fn most(legs: &[LegMarket], buy: bool, quantity: u32) -> u32
-    requires { Sound legs.now }
-    ensures { result ≡ most legs.now buy quantity }
-{
-    let mut least = quantity;
-    for leg in legs {
-        least = least.min(leg.available(buy));
-    }
-    least
-}
-
-// The prices of the bests that an order takes.
-fn prices_taken(legs: &[LegMarket], buy: bool) -> [u32; 4]
-    requires { Sound legs.now }
-    ensures { result ≡ prices_taken legs.now buy }
-{
-    let mut prices = [0; 4];
-    for (i, leg) in legs.iter().enumerate() {
-        prices[i] = leg.price_taken(buy);
-    }
-    prices
-}
-
 impl StrategyMarket {
-    // The net price on the other side: the net offer for a buy, the net bid for a sell.
-    pub(crate) fn net_taken(&self, buy: bool) -> i64
-        ensures value { result ≡ net_taken (legs_of self.now) buy }
-        ensures reach { (neg_ℤ (pos 32000000) ≤ℤ result) × (result ≤ℤ pos 32000000) }
+    // The most of a quantity that the legs give.
+    fn most(&self, buy: bool, quantity: u32) -> u32
+        ensures { result ≡ most (legs_of self.now) buy quantity }
     {
-        let (net_bid, net_offer) = self.net();
-        if buy { net_offer } else { net_bid }
+        self.legs()
+            .iter()
+            .map(|leg| leg.available(buy))
+            .fold(quantity, u32::min)
+    }
+
+    // The prices of the bests that an order takes.
+    fn prices_taken(&self, buy: bool) -> [u32; 4]
+        ensures { result ≡ prices_taken (legs_of self.now) buy }
+    {
+        let legs = self.legs();
+        let mut prices = [0; 4];
+        // by place: the proofs of `array::from_fn(|i| legs.get(i).map_or(0, ..))` and of `prices.iter_mut().zip(legs)` did not close
+        for (i, leg) in legs.iter().enumerate() {
+            prices[i] = leg.taken(buy).price;
+        }
+        prices
     }
 
     // Whether a limit is at least the net offer for a buy, at most the net bid for a sell.
@@ -88,15 +44,8 @@ impl StrategyMarket {
         ensures greatest { Greatest (legs_of self.now) buy limit quantity result }
         ensures eased { Eased (legs_of self.now) buy limit quantity result }
     {
-        self.leggable(buy, limit, quantity)
-    }
-
-    // The same, by its definition alone.
-    fn leggable(&self, buy: bool, limit: i64, quantity: u32) -> u32
-        ensures { result ≡ legged_quantity (legs_of self.now) buy limit quantity }
-    {
         if self.is_reached(buy, limit) {
-            most(self.legs(), buy, quantity)
+            self.most(buy, quantity)
         } else {
             0
         }
@@ -106,8 +55,9 @@ impl StrategyMarket {
     pub fn taken_at(&self, buy: bool) -> NetPrice
         ensures { result ≡ taken_at (legs_of self.now) buy }
     {
-        let price = self.net_taken(buy);
-        let legs = prices_taken(self.legs(), buy);
-        NetPrice { price, legs }
+        NetPrice {
+            price: self.net_taken(buy),
+            legs: self.prices_taken(buy),
+        }
     }
 }

@@ -1,30 +1,76 @@
-// What a leg adds to a net price, and what it is priced at.
-ghost use Rattle.std.specs.Prelude.{◌≡◌, ℕ, ◌*◌, ◌≤◌, true, pos, neg_ℤ, ◌≤ℤ◌};
-ghost use Rattle.pricing.specs.Legs.{width, signed, bid_part, offer_part};
+// What an order takes of a leg, what that adds to a net price, and what the leg is priced at.
+ghost use Rattle.std.specs.Prelude.{◌≡◌, ℕ, ◌*◌, ◌≤◌, true, pos, neg_ℤ, ◌≤ℤ◌, nat_lt};
+ghost use Rattle.pricing.specs.Legs.{width, is_open, part_taken};
 ghost use Rattle.pricing.specs.Sound.{leg_sound};
 ghost use Rattle.pricing.specs.Prices.{cents, price_at, at_customer, between};
+ghost use Rattle.pricing.specs.Legging.{available, price_taken, size_taken};
+ghost use Rattle.pricing.specs.Display.{customer_taken};
 
+use crate::limits::WIDEST_MARKET;
 use crate::market::LegMarket;
+use simple::Best;
 
 impl LegMarket {
+    // Whether the bid is below the offer, and not too far.
+    pub(crate) fn is_open(&self) -> bool
+        ensures { result ≡ is_open self.now }
+    {
+        self.bid.price < self.offer.price && self.offer.price - self.bid.price <= WIDEST_MARKET
+    }
+
+    // The best that an order takes: a buy the offers of bought and the bids of sold legs, a sell the reverse.
+    pub(crate) fn taken(&self, buy: bool) -> Best
+        ensures price { result.price ≡ price_taken buy self.now }
+        ensures size { result.size ≡ size_taken buy self.now }
+        ensures customer { nat_lt 0 result.customer ≡ customer_taken buy self.now }
+    {
+        if buy == self.bought {
+            self.offer
+        } else {
+            self.bid
+        }
+    }
+
+    // How many strategies the best that an order takes gives.
+    pub(crate) fn available(&self, buy: bool) -> u32
+        requires { 1 ≤ self.now.ratio }
+        ensures { result ≡ available buy self.now }
+    {
+        self.taken(buy).size / self.ratio
+    }
+
+    // What the leg adds to the net price that an order takes.
+    pub(crate) fn part_taken(&self, buy: bool) -> i64
+        requires { leg_sound self.now ≡ true }
+        ensures value { result ≡ part_taken buy self.now }
+        ensures high { result ≤ℤ pos 8000000 }
+        ensures low { neg_ℤ (pos 8000000) ≤ℤ result }
+    {
+        let value = i64::from(self.ratio * self.taken(buy).price);
+        if self.bought { value } else { -value }
+    }
+
     // The cents that the leg takes of the rest.
     pub(crate) fn cents_of(&self, rest: u32) -> u32
-        requires { leg_sound self.now ≡ true }
+        requires { 1 ≤ self.now.ratio }
         ensures value { result ≡ cents self.now rest }
         ensures fits { self.now.ratio * result ≤ rest }
     {
-        self.offer.saturating_sub(self.bid).min(rest / self.ratio)
+        self.offer
+            .price
+            .saturating_sub(self.bid.price)
+            .min(rest / self.ratio)
     }
 
     // The price of the leg once it takes these cents.
     pub(crate) fn price_at(&self, cents: u32) -> u32
-        requires { cents ≤ width self.now }
+        requires { (leg_sound self.now ≡ true) × (cents ≤ width self.now) }
         ensures { result ≡ price_at self.now cents }
     {
         if self.bought {
-            self.offer - cents
+            self.offer.price - cents
         } else {
-            self.bid + cents
+            self.bid.price + cents
         }
     }
 
@@ -32,46 +78,15 @@ impl LegMarket {
     pub(crate) fn is_improved_by(&self, price: u32) -> bool
         ensures { result ≡ between self.now price }
     {
-        self.bid < price && price < self.offer
+        self.bid.price < price && price < self.offer.price
     }
 
     // Whether the price is a best bid or offer of which a Priority Customer has a part.
     pub(crate) fn is_customer_price(&self, price: u32) -> bool
         ensures { result ≡ at_customer self.now price }
     {
-        price == self.bid && self.customer_bid || price == self.offer && self.customer_offer
-    }
-
-    // What the price adds to the strategy's net price.
-    fn net_of(&self, price: u32) -> i64
-        requires { (leg_sound self.now ≡ true) × (price ≤ 1000000) }
-        ensures value { result ≡ signed self.now price }
-        ensures high { result ≤ℤ pos 8000000 }
-        ensures low { neg_ℤ (pos 8000000) ≤ℤ result }
-    {
-        let value = (self.ratio * price) as i64;
-        if self.bought { value } else { -value }
-    }
-
-    // What the leg adds to the strategy's net bid.
-    pub(crate) fn part_of_bid(&self) -> i64
-        requires { leg_sound self.now ≡ true }
-        ensures value { result ≡ bid_part self.now }
-        ensures high { result ≤ℤ pos 8000000 }
-        ensures low { neg_ℤ (pos 8000000) ≤ℤ result }
-    {
-        let price = if self.bought { self.bid } else { self.offer };
-        self.net_of(price)
-    }
-
-    // What the leg adds to the strategy's net offer.
-    pub(crate) fn part_of_offer(&self) -> i64
-        requires { leg_sound self.now ≡ true }
-        ensures value { result ≡ offer_part self.now }
-        ensures high { result ≤ℤ pos 8000000 }
-        ensures low { neg_ℤ (pos 8000000) ≤ℤ result }
-    {
-        let price = if self.bought { self.offer } else { self.bid };
-        self.net_of(price)
+        [self.bid, self.offer]
+            .iter()
+            .any(|best| price == best.price && best.customer > 0)
     }
 }

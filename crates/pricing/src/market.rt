@@ -1,17 +1,14 @@
-// The market of a leg, and prices of a strategy with those of its legs. No invariant: the definitions make values of these types.
+// The market of a leg, and prices of a strategy with those of its legs. No invariant, so `leg_sound` is asked where it is needed: the definitions make values of these types.
+use simple::Best;
 
-// What one leg of a strategy trades against: its best bid and offer, and whether a Priority Customer has a part of either.
+// What one leg of a strategy trades against: its best bid and its best offer.
 #[derive(Clone, Copy, PartialEq, Eq, Debug)]
 pub struct LegMarket {
     // bought when the strategy is bought, else sold
     pub bought: bool,
     pub ratio: u32,
-    pub bid: u32,
-    pub offer: u32,
-    pub bid_size: u32,
-    pub offer_size: u32,
-    pub customer_bid: bool,
-    pub customer_offer: bool,
+    pub bid: Best,
+    pub offer: Best,
 }
 
 // A net price of a strategy, and the price of each leg, 0 where there is none.

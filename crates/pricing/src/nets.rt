@@ -1,28 +1,12 @@
 // The net market of a free strategy.
 ghost use Rattle.std.specs.Prelude.{◌≡◌, pos, neg_ℤ, ◌≤ℤ◌};
 ghost use Rattle.pricing.specs.Legs.{net_bid, net_offer};
+ghost use Rattle.pricing.specs.Legging.{net_taken};
 ghost use Rattle.pricing.specs.Sound.{Sound};
 ghost use Rattle.pricing.specs.Markets.{legs_of};
 
 use crate::market::LegMarket;
 use crate::strategy_market::StrategyMarket;
-
-// The net bid and the net offer of legs.
-fn net_of_legs(legs: &[LegMarket]) -> (i64, i64)
-    requires { Sound legs.now }
-    ensures bid { result.0 ≡ net_bid legs.now }
-    ensures offer { result.1 ≡ net_offer legs.now }
-    ensures bid_reach { (neg_ℤ (pos 32000000) ≤ℤ result.0) × (result.0 ≤ℤ pos 32000000) }
-    ensures offer_reach { (neg_ℤ (pos 32000000) ≤ℤ result.1) × (result.1 ≤ℤ pos 32000000) }
-{
-    let mut net_bid: i64 = 0;
-    let mut net_offer: i64 = 0;
-    for leg in legs {
-        net_bid += leg.part_of_bid();
-        net_offer += leg.part_of_offer();
-    }
-    (net_bid, net_offer)
-}
 
 impl StrategyMarket {
     // The markets of the legs, in the strategy's order.
@@ -33,6 +17,19 @@ impl StrategyMarket {
         &self.legs[0..self.count]
     }
 
+    // The net price on the other side: the net offer for a buy, the net bid for a sell.
+    pub(crate) fn net_taken(&self, buy: bool) -> i64
+        ensures value { result ≡ net_taken (legs_of self.now) buy }
+        ensures reach { (neg_ℤ (pos 32000000) ≤ℤ result) × (result ≤ℤ pos 32000000) }
+    {
+        let legs = self.legs();
+        let mut net: i64 = 0;
+        for leg in legs {
+            net += leg.part_taken(buy);
+        }
+        net
+    }
+
     // The net bid and the net offer, within 32,000,000 either way.
     pub fn net(&self) -> (i64, i64)
         ensures bid { result.0 ≡ net_bid (legs_of self.now) }
@@ -40,6 +37,6 @@ impl StrategyMarket {
         ensures bid_reach { (neg_ℤ (pos 32000000) ≤ℤ result.0) × (result.0 ≤ℤ pos 32000000) }
         ensures offer_reach { (neg_ℤ (pos 32000000) ≤ℤ result.1) × (result.1 ≤ℤ pos 32000000) }
     {
-        net_of_legs(self.legs())
+        (self.net_taken(false), self.net_taken(true))
     }
 }

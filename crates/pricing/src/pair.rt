@@ -23,9 +23,9 @@ fn nth_price(buy_is_older: bool, low: i64, high: i64, step: u32) -> i64
     ensures to_high { result ≤ℤ high }
 {
     if buy_is_older {
-        high - step as i64
+        high - i64::from(step)
     } else {
-        low + step as i64
+        low + i64::from(step)
     }
 }
 
@@ -37,6 +37,7 @@ fn legs_allow(rest: u32, improved: bool, matched: bool) -> bool
 }
 
 // The first admissible price of the range, cent by cent from the older order's end.
+// No struct of the limits and of who is older is plainer: they are two orders' own, and only `pair_price` passes them on.
 fn search(
     market: &StrategyMarket,
     buy_limit: i64,
@@ -53,12 +54,14 @@ fn search(
         return None;
     }
     let mut found = None;
-    'price: for step in 0..cents_between(low, high) + 1 {
+    // by rule an outer loop over net prices and an inner one over legs, left by a label; its prices by steps, since a range and its `rev` are two types
+    'price: for step in 0..=cents_between(low, high) {
         let price = nth_price(buy_is_older, low, high, step);
         let mut rest = cents_between(price, net_offer);
         let mut prices = [0; 4];
         let mut matched = false;
         let mut improved = false;
+        // by place, as `read_legs`: the proof of a zip with `prices.iter_mut()` did not close
         for (i, leg) in legs.iter().enumerate() {
             let cents = leg.cents_of(rest);
             rest -= leg.ratio * cents;

@@ -7,23 +7,26 @@ ghost use Rattle.pricing.specs.Sound.{leg_sound};
 ghost use Rattle.pricing.specs.Markets.{legs_of};
 ghost use Rattle.pricing.specs.Reading.{leg_market, markets_of, net_market, Closed};
 
-use crate::limits::WIDEST_MARKET;
 use crate::market::LegMarket;
 use crate::strategy_market::StrategyMarket;
-use simple::{Side, SimpleBook};
+use simple::{Best, Side, SimpleBook};
 use strategies::{LEG_PLACES, Leg, Strategy};
 
 // A place without a leg.
+const NO_BEST: Best = Best {
+    price: 0,
+    size: 0,
+    customer: 0,
+};
+
 const NO_LEG: LegMarket = LegMarket {
     bought: false,
     ratio: 0,
-    bid: 0,
-    offer: 0,
-    bid_size: 0,
-    offer_size: 0,
-    customer_bid: false,
-    customer_offer: false,
+    bid: NO_BEST,
+    offer: NO_BEST,
 };
+
+// Each function says of the book that it is left as it was: it is the caller's, so no type of this crate can hold that.
 
 // The market of a leg that is open: both sides have a lot, and the bid is below the offer and not too far.
 fn leg_market<B: SimpleBook>(book: &mut B, leg: Leg) -> Option<LegMarket>
@@ -33,22 +36,13 @@ fn leg_market<B: SimpleBook>(book: &mut B, leg: Leg) -> Option<LegMarket>
     ensures frame { B.SimpleBook.frame book.new ≡ B.SimpleBook.frame book.old }
     ensures sound { IfSome result (λ m. leg_sound m ≡ true) }
 {
-    let bid = book.best(leg.series, Side::Bid)?;
-    let offer = book.best(leg.series, Side::Offer)?;
-    if bid.price < offer.price && offer.price - bid.price <= WIDEST_MARKET {
-        Some(LegMarket {
-            bought: leg.bought,
-            ratio: leg.ratio,
-            bid: bid.price,
-            offer: offer.price,
-            bid_size: bid.size,
-            offer_size: offer.size,
-            customer_bid: bid.customer > 0,
-            customer_offer: offer.customer > 0,
-        })
-    } else {
-        None
-    }
+    let market = LegMarket {
+        bought: leg.bought,
+        ratio: leg.ratio,
+        bid: book.best(leg.series, Side::Bid)?,
+        offer: book.best(leg.series, Side::Offer)?,
+    };
+    market.is_open().then_some(market)
 }
 
 // The markets of the legs, where every leg is open.
@@ -59,6 +53,7 @@ fn read_legs<B: SimpleBook>(book: &mut B, legs: &[Leg]) -> Option<StrategyMarket
     ensures frame { B.SimpleBook.frame book.new ≡ B.SimpleBook.frame book.old }
 {
     let mut four = [NO_LEG; LEG_PLACES];
+    // by place: the proof of `four.iter_mut().zip(legs)` did not close, as nothing is known of an array after an adapter of its iter_mut
     for (i, leg) in legs.iter().enumerate() {
         four[i] = leg_market(book, *leg)?;
     }

@@ -1,6 +1,6 @@
 -- A row breaks no rule exactly where it is lawful.
-use Rattle.std.proofs.Common.{◌≡◌, ℕ, ◌≤◌, Bool, true, false, cond, ◌&&◌, leb, length, is_some, Some, None, Option, refl, ap, ◌∙◌, arith}
-use Rattle.std.proofs.lemmas.Bool.{leb-true, and_parts, and_from, both_ways, false≢true}
+use Rattle.std.proofs.Common.{◌≡◌, ℕ, ◌≤◌, Bool, true, false, cond, leb, length, is_some, Some, None, Option, refl, ap, ◌∙◌, arith}
+use Rattle.std.proofs.lemmas.Bool.{leb-true, and_parts, both_ways, false≢true}
 use Rattle.refusals.specs.declared.reason.Reason.{Reason}
 use Rattle.refusals.specs.declared.reason.Reason.TheVariants.{LegCount, Series, Ratio}
 use Rattle.strategies.specs.declared.row.StrategyRow.{StrategyRow}
@@ -35,10 +35,7 @@ row_lawful r all h =
     record {
       fewest = leb-true fewest_legs r.count count.0;
       most = leb-true r.count most_legs count.1;
-      legs =
-          lawful_if ls
-          (and_from (count_lawful (length ls)) (rising_from 0 ls && ratios_lawful ls) (ap count_lawful all ∙ few.0)
-          (and_from (rising_from 0 ls) (ratios_lawful ls) up.0 fit.0));
+      legs = lawful_if ls (ap count_lawful all ∙ few.0) up.0 fit.0;
     }
 
 -- an answer that names a rule

@@ -7,7 +7,7 @@ use Rattle.std.proofs.lemmas.Bool.{leb-true, le-leb, and_parts, and_from, not-tr
 use Rattle.simple.specs.Limits.{last_series}
 use Rattle.strategies.specs.declared.leg.Leg.{Leg}
 use Rattle.strategies.specs.Limits.{fewest_legs, most_legs, highest_ratio, ratio_spread}
-use Rattle.strategies.specs.Legs.{rising_from, ratio_fits, ratios_fit, largest, smallest, ratios_near, share_divisor, ratios_lawful, count_lawful, lawful_test}
+use Rattle.strategies.specs.Legs.{rising_from, ratio_fits, ratios_fit, largest, smallest, ratios_near, share_divisor, ratios_lawful, count_lawful}
 use Rattle.strategies.specs.Lawful.{Rising, RatioFits, LawfulLegs}
 use Rattle.strategies.proofs.Divisors.{lowest_if, lowest_only}
 
@@ -83,13 +83,11 @@ near_only ls fits near =
     ls (all_has_itself ls)))
 
 -- legs that pass the tests have the properties
-pub lawful_if : (ls : List Leg) → lawful_test ls ≡ true → LawfulLegs ls
-lawful_if ls h =
-    let parts = and_parts (count_lawful (length ls)) (rising_from 0 ls && ratios_lawful ls) h in
-    let count = and_parts (leb fewest_legs (length ls)) (leb (length ls) most_legs) parts.0 in
-    let rest = and_parts (rising_from 0 ls) (ratios_lawful ls) parts.1 in
-    let series = rises_if 0 ls rest.0 in
-    let ratios = and_parts (ratios_fit ls) (ratios_near ls && not (share_divisor ls)) rest.1 in
+pub lawful_if : (ls : List Leg) → count_lawful (length ls) ≡ true → rising_from 0 ls ≡ true → ratios_lawful ls ≡ true → LawfulLegs ls
+lawful_if ls counted rises fit =
+    let count = and_parts (leb fewest_legs (length ls)) (leb (length ls) most_legs) counted in
+    let series = rises_if 0 ls rises in
+    let ratios = and_parts (ratios_fit ls) (ratios_near ls && not (share_divisor ls)) fit in
     let terms = and_parts (ratios_near ls) (not (share_divisor ls)) ratios.1 in
     let fits = (fits_tell ls).0 ratios.0 in
     let few = leb-true fewest_legs (length ls) count.0 in
@@ -114,8 +112,3 @@ ratios_only ls law =
 
 pub count_only : (n : ℕ) → fewest_legs ≤ n → n ≤ most_legs → count_lawful n ≡ true
 count_only n few most = and_from (leb fewest_legs n) (leb n most_legs) (le-leb fewest_legs n few) (le-leb n most_legs most)
-
-pub lawful_only : (ls : List Leg) → LawfulLegs ls → lawful_test ls ≡ true
-lawful_only ls law =
-    and_from (count_lawful (length ls)) (rising_from 0 ls && ratios_lawful ls) (count_only (length ls) law.fewest law.most)
-    (and_from (rising_from 0 ls) (ratios_lawful ls) (rising_only ls law) (ratios_only ls law))

@@ -1,5 +1,5 @@
 -- The tests that the legs of a strategy pass.
-use Rattle.std.specs.Prelude.{ℕ, ◌+◌, ◌-◌, ◌*◌, ◌%◌, min, max, Bool, true, false, not, ◌&&◌, List, [], ◌∷◌, length, ◌==◌, nat_le}
+use Rattle.std.specs.Prelude.{ℕ, ◌+◌, ◌-◌, ◌*◌, ◌%◌, min, max, Bool, true, false, not, ◌&&◌, List, [], ◌∷◌, ◌==◌, nat_le}
 use Rattle.std.specs.List.{list_all, list_any, range_with_len}
 use Rattle.simple.specs.Limits.{last_series}
 use Rattle.strategies.specs.declared.leg.Leg.{Leg}
@@ -51,7 +51,3 @@ ratios_lawful ls = ratios_fit ls && (ratios_near ls && not (share_divisor ls))
 -- there are 2 to 4 legs
 abbrev pub count_lawful : ℕ → Bool
 count_lawful n = nat_le fewest_legs n && nat_le n most_legs
-
--- the legs pass every test
-abbrev pub lawful_test : List Leg → Bool
-lawful_test ls = count_lawful (length ls) && (rising_from 0 ls && ratios_lawful ls)

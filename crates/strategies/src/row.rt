@@ -24,7 +24,7 @@ impl StrategyRow {
         ensures answer { result_err result ≡ row_fault self.now }
         ensures accepted { Exactly (is_ok result ≡ true) (LawfulRow self.now) }
     {
-        if self.count < FEWEST_LEGS || self.count > MOST_LEGS {
+        if !(FEWEST_LEGS..=MOST_LEGS).contains(&self.count) {
             return Err(Reason::LegCount);
         }
         let legs = self.counted();

@@ -5,14 +5,17 @@ use Rattle.pricing.specs.declared.market.NetPrice.{NetPrice}
 use Rattle.pricing.specs.Legs.{net_bid, net_offer, in_places}
 use Rattle.pricing.specs.Prices.{rest_at, rest_after, by_leg, customer_rule}
 use Rattle.pricing.specs.Pair.{lowest, highest, priced, first, nth, pair_price}
-use Rattle.pricing.proofs.Soundness.{few, sound_at, sound_free}
+use Rattle.pricing.proofs.Soundness.{few, leg_told, sound_at, sound_free}
+use Rattle.pricing.proofs.Split.{leg_at}
 use Rattle.pricing.proofs.Search.{refused_here, priced_here, first_missed, hit, missed_all, crossed}
 use Rattle.pricing.proofs.Pricing.{priced_more, priced_end}
 use Rattle.pricing.proofs.pair.search.Goals as goal
 use Rattle.pricing.proofs.pair.search.Goals.{After-min-high, After-loop-i}
 
 pub cents_of-cents-requires : goal.cents_of-cents-requires
-cents_of-cents-requires c = sound_at c.legs-legs.result.now c.loop-i.i _ c.legs-legs.ensures.sound c.loop-i-test.true
+cents_of-cents-requires c =
+    let legs = c.legs-legs.result.now in
+    (leg_told (leg_at legs c.loop-i.i) (sound_at legs c.loop-i.i _ c.legs-legs.ensures.sound c.loop-i-test.true)).some
 
 pub bounds-prices-i : goal.bounds-prices-i
 bounds-prices-i c = let short = few c.legs-legs.result.now c.legs-legs.ensures.sound in omega arith
@@ -80,19 +83,22 @@ price-preserved c =
     let value : c.nth_price-price.result ≡ nth c.args.buy_is_older c.max-low.result c.min-high.result c.price.step = simp to_z-of_z at c.nth_price-price.ensures.value in
     (c.price.invariant.0, simp to_z-of_z (first_missed tried c.price.step none (rw (← value) miss)))
 
-pub returns-after-price : goal.returns-after-price
-returns-after-price c =
-    let at = (goal.at.returns-after-price c).After-min-high in
+pub returns-else-legs_allow : goal.returns-else-legs_allow
+returns-else-legs_allow c =
+    let at = (goal.at.returns-else-legs_allow c).After-min-high in
     let fl : SFits w64 c.max-low.result = search rules in
     let fh : SFits w64 c.min-high.result = search rules in
     let legs : List LegMarket = c.legs-legs.result.now in
     let tried : ℕ → Option NetPrice = λ k. priced legs (nth c.args.buy_is_older c.max-low.result c.min-high.result k) in
     let le : c.max-low.result ≤ℤ c.min-high.result = omega (arith, ints) in
     let span : c.cents_between-step-end.result ≡ nat_abs (c.min-high.result -ℤ c.max-low.result) = grind (arith, to_z-of_z) in
-    let end : c.price.step ≡ c.cents_between-step-end.result + 1 = omega arith in
+    let miss = refused (goal.at.returns-else-legs_allow c).After-loop-i (sym c.if-legs_allow.ensures) in
     let none : first tried c.price.step ≡ None = simp to_z-of_z at c.price.invariant.1 in
+    let value : c.nth_price-price.result ≡ nth c.args.buy_is_older c.max-low.result c.min-high.result c.price.step = simp to_z-of_z at c.nth_price-price.ensures.value in
+    let more = first_missed tried c.price.step none (rw (← value) miss) in
+    let last : c.price.step + 1 ≡ c.cents_between-step-end.result + 1 = omega arith in
     c.price.invariant.0
-    ∙ missed_all legs c.args.buy_limit c.args.sell_limit c.args.buy_is_older c.max-low.result c.min-high.result (low_is at) (high_is at) c.cents_between-step-end.result le span (rw end at none)
+    ∙ missed_all legs c.args.buy_limit c.args.sell_limit c.args.buy_is_older c.max-low.result c.min-high.result (low_is at) (high_is at) c.cents_between-step-end.result le span (rw last at more)
     ∙ ap (λ (ms : List LegMarket). pair_price ms c.args.buy_limit c.args.sell_limit c.args.buy_is_older) c.legs-legs.ensures.value
 
 pub returns-then-legs_allow : goal.returns-then-legs_allow
@@ -111,5 +117,10 @@ returns-then-legs_allow c =
     simp to_z-of_z
     (hit legs c.args.buy_limit c.args.sell_limit c.args.buy_is_older c.max-low.result c.min-high.result (low_is at) (high_is at)
     c.price.step c.cents_between-step-end.result _
-    le span c.price-test.true none (ap (priced legs) (sym value) ∙ trade)
+    le span (omega arith) none (ap (priced legs) (sym value) ∙ trade)
     ∙ ap (λ (ms : List LegMarket). pair_price ms c.args.buy_limit c.args.sell_limit c.args.buy_is_older) c.legs-legs.ensures.value)
+
+pub price_at-leg_price-requires : goal.price_at-leg_price-requires
+price_at-leg_price-requires c =
+    let sound = sound_at c.legs-legs.result.now c.loop-i.i _ c.legs-legs.ensures.sound c.loop-i-test.true in
+    (sound, omega (arith, c.cents_of-cents.ensures.value))

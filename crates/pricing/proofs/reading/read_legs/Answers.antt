@@ -7,12 +7,6 @@ use Rattle.pricing.specs.Reading.{leg_market, markets_of}
 use Rattle.pricing.proofs.Marketing.{market_closed, market_more, sound_more, markets_all}
 use Rattle.pricing.proofs.reading.read_legs.Goals as goal
 
-pub bounds-four-i : goal.bounds-four-i
-bounds-four-i g c = let few = c.requires.0.most in omega (arith, c.loop-i.invariant.4)
-
-pub leg_market-requires : goal.leg_market-requires
-leg_market-requires g c = c.requires.1.ratios c.loop-i.i _ c.loop-i-test.true
-
 pub returns-in_err-four : goal.returns-in_err-four
 returns-in_err-four g c =
     let b = g.B.SimpleBook.lots c.args.book.now in

@@ -1,20 +1,20 @@
-use Rattle.std.proofs.Common.{◌≡◌, ℕ, List, ℤ, sym, ap, ◌∙◌, subst, w64}
+use Rattle.std.proofs.Common.{◌≡◌, true, false, refl, sym, ap, ◌∙◌, subst, w64}
 use Rattle.std.proofs.lemmas.Int.{to_z-of_z}
-use Rattle.pricing.specs.declared.market.LegMarket.{LegMarket}
 use Rattle.pricing.specs.Markets.{legs_of}
-use Rattle.pricing.specs.Legging.{legged_quantity, Greatest, Eased}
-use Rattle.pricing.proofs.Taking.{greatest, eased}
+use Rattle.pricing.specs.Legging.{reaches, legged_quantity, Greatest}
+use Rattle.pricing.proofs.Taking.{greatest}
 use Rattle.pricing.proofs.strategy_market.StrategyMarket.legged_quantity.Goals as goal
 
-pub returns : goal.returns
-returns c =
-    let ms : List LegMarket = legs_of c.args.self.now in
-    let buy = c.args.buy in
-    let limit = c.args.limit in
-    let q = c.args.quantity in
-    let e : c.leggable.result ≡ legged_quantity ms buy limit q = c.leggable.ensures ∙ ap (λ (z : ℤ). legged_quantity ms buy z q) (to_z-of_z w64 limit c.ranges.limit) in
-    record {
-      answer = e;
-      greatest = subst (λ (n : ℕ). Greatest ms buy limit q n) (sym e) (greatest ms buy limit q c.args.self.now.sound);
-      eased = subst (λ (n : ℕ). Eased ms buy limit q n) (sym e) (eased ms buy limit q);
-    }
+pub returns-then-is_reached-clause-greatest : goal.returns-then-is_reached-clause-greatest
+returns-then-is_reached-clause-greatest c =
+    let ms = legs_of c.args.self.now in
+    let reached : true ≡ reaches ms c.args.buy c.args.limit = c.if-is_reached.ensures ∙ ap (λ z. reaches ms c.args.buy z) (to_z-of_z w64 c.args.limit c.ranges.limit) in
+    let is : legged_quantity ms c.args.buy c.args.limit c.args.quantity ≡ c.most.result = rw (← reached) (sym c.most.ensures) in
+    subst (Greatest ms c.args.buy c.args.limit c.args.quantity) is (greatest ms c.args.buy c.args.limit c.args.quantity c.args.self.now.sound)
+
+pub returns-else-is_reached-clause-greatest : goal.returns-else-is_reached-clause-greatest
+returns-else-is_reached-clause-greatest c =
+    let ms = legs_of c.args.self.now in
+    let short : false ≡ reaches ms c.args.buy c.args.limit = c.if-is_reached.ensures ∙ ap (λ z. reaches ms c.args.buy z) (to_z-of_z w64 c.args.limit c.ranges.limit) in
+    let none : legged_quantity ms c.args.buy c.args.limit c.args.quantity ≡ 0 = rw (← short) refl in
+    subst (Greatest ms c.args.buy c.args.limit c.args.quantity) none (greatest ms c.args.buy c.args.limit c.args.quantity c.args.self.now.sound)

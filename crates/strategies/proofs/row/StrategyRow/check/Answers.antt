@@ -1,5 +1,5 @@
 -- `check`: the first rule that is broken, and that none is exactly where the row is lawful.
-use Rattle.std.proofs.Common.{length, sym, ap, ◌∙◌, arith}
+use Rattle.std.proofs.Common.{length, sym, ap, ◌∙◌, rules}
 use Rattle.refusals.specs.declared.reason.Reason.TheVariants.{Series, Ratio}
 use Rattle.strategies.specs.Legs.{rising_from, ratios_lawful}
 use Rattle.strategies.proofs.Checks.{series_fault, ratio_fault, no_fault, exactly_some, exactly_none}
@@ -9,7 +9,7 @@ pub returns-then-not-series_rise : goal.returns-then-not-series_rise
 returns-then-not-series_rise c =
     let row = c.args.self.now in
     let same = c.counted-legs.ensures.value in
-    let is = series_fault row (omega arith) (omega arith) (c.if-not-series_rise.ensures ∙ ap (rising_from 0) same) in
+    let is = series_fault row (search rules) (search rules) (c.if-not-series_rise.ensures ∙ ap (rising_from 0) same) in
     record { answer = is; accepted = exactly_some row Series is }
 
 pub returns-then-not-ratios_lawful : goal.returns-then-not-ratios_lawful
@@ -17,7 +17,7 @@ returns-then-not-ratios_lawful c =
     let row = c.args.self.now in
     let same = c.counted-legs.ensures.value in
     let rises = c.if-not-series_rise.ensures ∙ ap (rising_from 0) same in
-    let is = ratio_fault row (omega arith) (omega arith) rises (c.if-not-ratios_lawful.ensures ∙ ap ratios_lawful same) in
+    let is = ratio_fault row (search rules) (search rules) rises (c.if-not-ratios_lawful.ensures ∙ ap ratios_lawful same) in
     record { answer = is; accepted = exactly_some row Ratio is }
 
 pub returns : goal.returns
@@ -25,5 +25,5 @@ returns c =
     let row = c.args.self.now in
     let same = c.counted-legs.ensures.value in
     let rises = c.if-not-series_rise.ensures ∙ ap (rising_from 0) same in
-    let is = no_fault row (omega arith) (omega arith) rises (c.if-not-ratios_lawful.ensures ∙ ap ratios_lawful same) in
+    let is = no_fault row (search rules) (search rules) rises (c.if-not-ratios_lawful.ensures ∙ ap ratios_lawful same) in
     record { answer = is; accepted = exactly_none row (ap length (sym same) ∙ c.counted-legs.ensures.all) is }
