@@ -1,19 +1,19 @@
 -- The lots of one side stand together.
-use Rattle.std.proofs.Common.{◌≡◌, ℕ, ◌+◌, ◌<◌, ◌≤◌, Bool, true, false, not, ◌&&◌, ◌||◌, eqb, ltb, List, [], ◌∷◌, drop, pos, sym, refl, ap, ◌∙◌, inl, inr, one-add, arith}
-use Rattle.std.specs.List.{prefix_len, AllByRecursion}
+use Rattle.std.proofs.Common.{◌≡◌, ℕ, ◌<◌, ◌≤◌, Bool, true, false, not, ◌&&◌, ◌||◌, eqb, ltb, List, [], ◌∷◌, ◌++◌, pos, refl, ap, ◌∙◌, inl, inr, arith}
+use Rattle.std.specs.List.{AllByRecursion}
 use Rattle.std.proofs.lemmas.Int.{ints}
 use Rattle.std.proofs.lemmas.Bool.Decides.{nat_tests}
-use Rattle.std.proofs.lemmas.Bool.{cond-true, cond-false, cases_Bool}
+use Rattle.std.proofs.lemmas.Bool.{cond-true, cond-false, cases_Bool, both_ways}
 use Rattle.std.proofs.ByRecursion.{All-weaker}
 use Rattle.simple.specs.declared.lot.Side.{Side}
 use Rattle.simple.specs.declared.lot.Side.TheVariants.{Bid, Offer}
 use Rattle.simple.specs.Lots.{same_side}
 use Rattle.ranked.specs.Lex.{lex, first_if}
-use Rattle.ranked.specs.Ranking.{Sorted}
+use Rattle.ranked.specs.Ranking.{Pairwise, Sorted}
 use Rattle.lots.specs.declared.posted.PostedLot.{PostedLot}
 use Rattle.lots.specs.Rank.{is_bid, lot_ahead}
-use Rattle.depth.specs.Lots.{stands_on, lots_of}
-use Rattle.depth.specs.Running.{stands_before, run_lots}
+use Rattle.depth.specs.Lots.{stands_on, lots_of, all_lots}
+use Rattle.depth.specs.Running.{stands_before}
 
 -- what the first two keys say
 lower : (a b : ℕ) (p q next : Bool) → lex (pos a) (pos b) (lex (first_if p) (first_if q) next) ≡ true → a ≤ b
@@ -71,32 +71,30 @@ module _ (s : ℕ) (d : Side) where
   none_on [] a = refl
   none_on (x ∷ xs) a = cond-false _ _ _ a.0 ∙ none_on xs a.1
 
-  run_is : (xs : List PostedLot) → Sorted lot_ahead xs → AllByRecursion (λ y. stands_before s d y ≡ false) xs → run_lots s d xs ≡ lots_of xs s d
-  run_is [] a n = refl
-  run_is (x ∷ xs) a n =
-      elim (cases_Bool (stands_on s d x)) [
-        | inl o ↦
-            let run : run_lots s d (x ∷ xs) ≡ x.lot ∷ run_lots s d xs = cond-true _ _ _ o in
-            let mine : lots_of (x ∷ xs) s d ≡ x.lot ∷ lots_of xs s d = cond-true _ _ _ o in
-            run ∙ ap (λ ls. x.lot ∷ ls) (run_is xs a.1 n.1) ∙ sym mine
-        | inr o ↦
-            let run : run_lots s d (x ∷ xs) ≡ [] = cond-false _ _ _ o in
-            run ∙ sym (none_on (x ∷ xs) (o, all_off x n.0 o xs a.0))
-      ]
+  pub all_on : (xs : List PostedLot) → AllByRecursion (λ y. stands_on s d y ≡ true) xs → lots_of xs s d ≡ all_lots xs
+  all_on [] a = refl
+  all_on (x ∷ xs) a = cond-true _ _ _ a.0 ∙ ap (λ ls. x.lot ∷ ls) (all_on xs a.1)
 
-  from : (xs : List PostedLot) → Sorted lot_ahead xs → run_lots s d (drop (prefix_len (stands_before s d) xs) xs) ≡ lots_of xs s d
-  from [] a = refl
-  from (x ∷ xs) a =
-      elim (cases_Bool (stands_before s d x)) [
-        | inl b ↦
-            let count : prefix_len (stands_before s d) (x ∷ xs) ≡ 1 + prefix_len (stands_before s d) xs = cond-true _ _ _ b in
-            let other : lots_of (x ∷ xs) s d ≡ lots_of xs s d = cond-false _ _ _ (before_is_off x b) in
-            ap (λ j. run_lots s d (drop j (x ∷ xs))) (count ∙ one-add (prefix_len (stands_before s d) xs)) ∙ from xs a.1 ∙ sym other
-        | inr b ↦
-            let count : prefix_len (stands_before s d) (x ∷ xs) ≡ 0 = cond-false _ _ _ b in
-            ap (λ j. run_lots s d (drop j (x ∷ xs))) count ∙ run_is (x ∷ xs) a (no_more_before x xs b a)
-      ]
+  pub lots_append : (xs ys : List PostedLot) → lots_of (xs ++ ys) s d ≡ lots_of xs s d ++ lots_of ys s d
+  lots_append [] ys = refl
+  lots_append (x ∷ xs) ys =
+      let more = lots_append xs ys in
+      elim (cases_Bool (stands_on s d x)) [ inl e ↦ simp (e, more) | inr e ↦ simp (e, more) ]
 
-  -- from the place of its first lot on
-  pub side_is : (xs : List PostedLot) (k : ℕ) → k ≡ prefix_len (stands_before s d) xs → Sorted lot_ahead xs → run_lots s d (drop k xs) ≡ lots_of xs s d
-  side_is xs k is a = ap (λ j. run_lots s d (drop j xs)) is ∙ from xs a
+  -- the lots that stand before the side are the first ones
+  pub before_first : (xs : List PostedLot) → Sorted lot_ahead xs → Pairwise (λ x y. stands_before s d y ≡ true → stands_before s d x ≡ true) xs
+  before_first [] a = tt
+  before_first (x ∷ xs) a = (
+    All-weaker (λ y. lot_ahead x y ≡ true) (λ y. stands_before s d y ≡ true → stands_before s d x ≡ true)
+        (λ y h up. elim (cases_Bool (stands_before s d x)) [ inl e ↦ e | inr e ↦ absurd (both_ways _ (past s d x.series y.series x.side y.side _ h e) up) ]) xs a.0,
+    before_first xs a.1,
+  )
+
+  -- and of those behind them the ones that stand on it
+  pub on_first : (xs : List PostedLot) → Sorted lot_ahead xs → AllByRecursion (λ y. stands_before s d y ≡ false) xs → Pairwise (λ x y. stands_on s d y ≡ true → stands_on s d x ≡ true) xs
+  on_first [] a n = tt
+  on_first (x ∷ xs) a n = (
+    All-weaker (λ y. lot_ahead x y ≡ true) (λ y. stands_on s d y ≡ true → stands_on s d x ≡ true)
+        (λ y h up. elim (cases_Bool (stands_on s d x)) [ inl e ↦ e | inr e ↦ absurd (both_ways _ (off s d x.series y.series x.side y.side _ h n.0 e) up) ]) xs a.0,
+    on_first xs a.1 n.1,
+  )

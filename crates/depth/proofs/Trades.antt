@@ -1,39 +1,25 @@
 -- What a take moves, of lots that stand in rank.
-use Rattle.std.proofs.Common.{◌≡◌, ℕ, suc, ◌+◌, ◌-◌, ◌≤◌, Bool, true, false, ◌||◌, eqb, ltb, List, [], ◌∷◌, ◌++◌, take, drop, Ok, filter, sym, refl, ap, ◌∙◌, subst, inl, inr, one-add, arith}
+use Rattle.std.proofs.Common.{◌≡◌, ℕ, suc, ◌+◌, ◌-◌, ◌≤◌, true, false, List, [], ◌∷◌, ◌++◌, take, drop, Ok, sym, refl, ap, ◌∙◌, subst, inl, inr, one-add, arith}
 use Rattle.std.specs.List.{prefix_len, AllByRecursion}
 use Rattle.std.proofs.lemmas.List.{take-append-drop}
-use Rattle.std.proofs.lemmas.Bool.{cond_both, cond-true, cond-false, cases_Bool, cases_lt, lt-ltb, le-ltb, ltb-false, or_parts}
+use Rattle.std.proofs.lemmas.Bool.{cond-true, cond-false, cases_Bool, cases_lt, lt-ltb, le-ltb}
 use Rattle.simple.specs.declared.lot.Side.{Side}
-use Rattle.simple.specs.declared.lot.Lot.{Lot}
 use Rattle.simple.specs.Lots.{Lots, contracts}
-use Rattle.simple.specs.Best.{best_of, best_size}
 use Rattle.simple.specs.Take.{take_answer}
+use Rattle.simple.specs.TakeMoved.{take_within, best_within}
 use Rattle.ranked.specs.Ranking.{Sorted}
 use Rattle.lots.specs.declared.posted.PostedLot.{PostedLot}
 use Rattle.lots.specs.Rank.{lot_ahead}
 use Rattle.depth.specs.Lots.{stands_on, lots_of, all_lots}
 use Rattle.depth.specs.Running.{stands_before}
 use Rattle.depth.specs.Take.{reduced, take_lots, Reduced, Taken}
-use Rattle.depth.proofs.Admits.{passed}
 use Rattle.depth.proofs.Runs.{before_is_off, all_off, none_on}
 use Rattle.depth.proofs.Takes.{unchanged, sorted_drop, from_start, start_none}
-
--- some of the lots have no more contracts than all of them
-contracts_kept : (test : Lot → Bool) (ls : List Lot) → contracts (filter test ls) ≤ contracts ls
-contracts_kept test [] = omega arith
-contracts_kept test (l ∷ ls) =
-    let more = contracts_kept test ls in
-    cond_both (test l) (l ∷ filter test ls) (filter test ls) (λ ks. contracts ks ≤ l.size + contracts ls) (λ _. omega arith) (λ _. omega arith)
-
-best_within : (ls : List Lot) → best_size (best_of ls) ≤ contracts ls
-best_within [] = omega arith
-best_within (l ∷ ls) = contracts_kept (λ m. eqb m.price l.price) (l ∷ ls)
 
 -- a take that is accepted finds its quantity on the side
 pub within_side : (b : Lots) (s : ℕ) (d : Side) (q : ℕ) → Ok tt ≡ take_answer b s d q → q ≤ contracts (b s d)
 within_side b s d q h =
-    let few : (eqb q 0 || ltb (best_size (best_of (b s d))) q) ≡ false = (passed _ _ _ _ (passed _ _ _ _ h).1).0 in
-    let best : q ≤ best_size (best_of (b s d)) = ltb-false (best_size (best_of (b s d))) q (or_parts (eqb q 0) (ltb (best_size (best_of (b s d))) q) few).1 in
+    let best = take_within b s d q h in
     let all = best_within (b s d) in
     omega arith
 

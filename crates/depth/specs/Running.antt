@@ -1,8 +1,7 @@
--- What walks over lots find on their way to a side and along it.
-use Rattle.std.specs.Prelude.{ℕ, ◌+◌, Bool, cond, not, ◌&&◌, ◌||◌, List, [], ◌∷◌, Some, None, Option, ◌==◌, nat_lt}
+-- Where the lots of a side stand among all lots.
+use Rattle.std.specs.Prelude.{◌≡◌, ℕ, ◌-◌, ◌≤◌, Bool, true, false, not, ◌&&◌, ◌||◌, List, length, take, drop, ◌==◌, nat_lt}
+use Rattle.std.specs.List.{AllByRecursion}
 use Rattle.simple.specs.declared.lot.Side.{Side}
-use Rattle.simple.specs.declared.lot.Lot.{Lot}
-use Rattle.simple.specs.declared.lot.Best.{Best}
 use Rattle.lots.specs.declared.posted.PostedLot.{PostedLot}
 use Rattle.lots.specs.Rank.{is_bid}
 use Rattle.depth.specs.Lots.{stands_on}
@@ -11,18 +10,10 @@ use Rattle.depth.specs.Lots.{stands_on}
 abbrev pub stands_before : ℕ → Side → PostedLot → Bool
 stands_before s d x = nat_lt x.series s || (x.series == s && (is_bid x.side && not (is_bid d)))
 
--- the lots at the front that stand on that side
-abbrev pub run_lots : ℕ → Side → List PostedLot → List Lot
-run_lots s d [] = []
-run_lots s d (x ∷ xs) = cond (stands_on s d x) (x.lot ∷ run_lots s d xs) []
-
--- what is best of a side once a lot follows
-abbrev pub joined : Option Best → Lot → Option Best
-joined None l = Some (record { price = l.price; size = l.size; customer = cond l.customer l.size 0 })
-joined (Some b) l =
-    Some (cond (l.price == b.price) (record { price = b.price; size = b.size + l.size; customer = b.customer + cond l.customer l.size 0 }) b)
-
--- the Priority Customers' part of it
-abbrev pub customer_part : Option Best → ℕ
-customer_part None = 0
-customer_part (Some b) = b.customer
+-- the lots of that side are those from one place up to another
+pub record Stretch (s : ℕ) (d : Side) (xs : List PostedLot) (first end : ℕ) : Type 0 where
+  pub ordered : first ≤ end
+  pub within : end ≤ length xs
+  pub before : AllByRecursion (λ x. stands_on s d x ≡ false) (take first xs)
+  pub own : AllByRecursion (λ x. stands_on s d x ≡ true) (take (end - first) (drop first xs))
+  pub behind : AllByRecursion (λ x. stands_on s d x ≡ false) (drop end xs)

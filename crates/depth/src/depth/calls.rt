@@ -14,7 +14,7 @@ use crate::side;
 use lots::PostedLot;
 use ranked::RankedList;
 use refusals::{Reason, Refusal, Station};
-use simple::{Best, Lot, Side, SimpleBook};
+use simple::{Best, Lot, Side, SimpleBook, allow_take};
 
 impl<'a> DepthBook<'a> {
     /// A book with no lot, however the memory was filled.
@@ -67,7 +67,7 @@ impl<'a> DepthBook<'a> {
         ensures lots { depth_lots self.new ≡ after result (taken (depth_lots self.old) series side quantity) (depth_lots self.old) }
         ensures counts { counts self.new ≡ counts self.old }
     {
-        self.allow(series, side, quantity)?;
+        allow_take(series, side::best(self.of_side(series, side)), quantity)?;
         self.reduce(series, side, quantity);
         Ok(())
     }
@@ -83,7 +83,7 @@ impl<'a> SimpleBook for DepthBook<'a> {
     ghost frame = { counts };
 
     fn best(&mut self, series: u32, side: Side) -> Option<Best> {
-        side::best(self.from_side(series, side), series, side)
+        side::best(self.of_side(series, side))
     }
 
     fn take(&mut self, series: u32, side: Side, quantity: u32) -> Result<(), Refusal> {

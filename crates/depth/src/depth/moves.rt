@@ -6,7 +6,7 @@ ghost use Rattle.simple.specs.Lots.{contracts};
 ghost use Rattle.simple.specs.Take.{take_answer, taken};
 ghost use Rattle.ranked.specs.Ranking.{Standing};
 ghost use Rattle.lots.specs.Rank.{lot_number};
-ghost use Rattle.depth.specs.Running.{run_lots};
+ghost use Rattle.depth.specs.Lots.{all_lots};
 ghost use Rattle.depth.specs.Meaning.{standing, depth_lots, posted_count, places, counts};
 ghost use Rattle.depth.specs.Post.{post_answer, with_posted, with_lot};
 ghost use Rattle.depth.specs.Withdraw.{stands, without_lot, Withdrawn};
@@ -20,12 +20,12 @@ use refusals::{Reason, Refusal, Station};
 use simple::{HIGHEST_PRICE, LAST_SERIES, LOT_LIMIT, Lot, SIDE_LIMIT, Side};
 
 impl<'a> DepthBook<'a> {
-    /// The lots from a side's first lot on.
-    pub(crate) fn from_side(&self, series: u32, side: Side) -> &[PostedLot]
-        ensures lots { run_lots series side result.now ≡ depth_lots self.now series side }
-        ensures within { contracts (run_lots series side result.now) ≤ side_limit }
+    /// The lots of a side.
+    pub(crate) fn of_side(&self, series: u32, side: Side) -> &[PostedLot]
+        ensures lots { all_lots result.now ≡ depth_lots self.now series side }
+        ensures within { contracts (all_lots result.now) ≤ side_limit }
     {
-        side::from_side(self.lots.entries(), series, side)
+        side::of_side(self.lots.entries(), series, side)
     }
 
     /// The number of the next lot, unless that lot is refused.
@@ -41,7 +41,7 @@ impl<'a> DepthBook<'a> {
         if lot.price == 0 || lot.price > HIGHEST_PRICE || lot.size == 0 || lot.size > LOT_LIMIT {
             return Err(Refusal::at(Station::Post, Reason::BadLot));
         }
-        if side::total(self.from_side(series, side), series, side) + lot.size > SIDE_LIMIT {
+        if side::total(self.of_side(series, side)) + lot.size > SIDE_LIMIT {
             return Err(Refusal::at(Station::Post, Reason::BadLot));
         }
         if self.lots.len() >= LOT_PLACES {
@@ -86,19 +86,6 @@ impl<'a> DepthBook<'a> {
         ensures counts { counts self.new ≡ counts self.old }
     {
         let _ = self.lots.remove(place);
-    }
-
-    /// Whether a quantity can be taken from a side, or why not.
-    pub(crate) fn allow(&self, series: u32, side: Side, quantity: u32) -> Result<(), Refusal>
-        ensures { result ≡ take_answer (depth_lots self.now) series side quantity }
-    {
-        if series > LAST_SERIES {
-            return Err(Refusal::at(Station::Take, Reason::NoSeries));
-        }
-        if quantity == 0 || quantity > side::available(self.from_side(series, side), series, side) {
-            return Err(Refusal::at(Station::Take, Reason::TooMany));
-        }
-        Ok(())
     }
 
     /// Takes a quantity that was allowed from the front of a side.

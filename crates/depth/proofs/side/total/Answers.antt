@@ -1,19 +1,20 @@
-use Rattle.std.proofs.Common.{sym, ap, arith}
-use Rattle.simple.specs.Lots.{contracts}
-use Rattle.depth.proofs.Walks.{run_more, run_off, run_end}
+-- `total`: the sum of the sizes.
+use Rattle.std.proofs.Common.{◌∙◌, sym, arith, rules, of_calls}
+use Rattle.std.proofs.lemmas.Iterator.{YieldsList-from_slice, YieldsList-from_map}
+use Rattle.std.proofs.lemmas.Iterator.Consumers.{YieldsList-at, sum_by_from_yields_List, fits_by_from_yields_list}
+use Rattle.depth.proofs.Sides.{contracts_sum}
 use Rattle.depth.proofs.side.total.Goals as goal
 
-pub returns-then-not-is_on : goal.returns-then-not-is_on
-returns-then-not-is_on c =
-    omega (arith, ap contracts (run_off c.args.series c.args.side c.args.lots.now c.loop-entry.entry-index c.loop-entry-test.true (sym c.if-not-is_on.ensures)))
-
-pub overflow_add-sum : goal.overflow_add-sum
-overflow_add-sum c =
-    omega (arith, ap contracts (run_more c.args.series c.args.side c.args.lots.now c.loop-entry.entry-index c.loop-entry-test.true (sym c.if-not-is_on.ensures)))
-
-pub loop-entry-preserved : goal.loop-entry-preserved
-loop-entry-preserved c =
-    omega (arith, ap contracts (run_more c.args.series c.args.side c.args.lots.now c.loop-entry.entry-index c.loop-entry-test.true (sym c.if-not-is_on.ensures)))
+pub sum-requires : goal.sum-requires
+sum-requires c =
+    let sum = contracts_sum c.args.lots.now in
+    record {
+      can = search of_calls;
+      finite = search of_calls;
+      fits = fits_by_from_yields_list (λ x. x.lot.size) c.args.lots.now c.map.result _ (YieldsList-from_map _ (λ x. x.lot.size) (YieldsList-at c.map.ensures.source (YieldsList-from_slice c.args.lots.now c.iter.ensures.rest)) c.map.ensures.closure (λ x r q k. search rules)) (omega arith);
+    }
 
 pub returns : goal.returns
-returns c = omega (arith, ap contracts (run_end c.args.series c.args.side c.args.lots.now c.loop-entry.entry-index c.loop-entry-test.false))
+returns c =
+    sum_by_from_yields_List (λ x. x.lot.size) c.args.lots.now c.map.result _ c.sum.ensures.ran (YieldsList-from_map _ (λ x. x.lot.size) (YieldsList-at c.map.ensures.source (YieldsList-from_slice c.args.lots.now c.iter.ensures.rest)) c.map.ensures.closure (λ x r q k. search rules))
+    ∙ sym (contracts_sum c.args.lots.now)
