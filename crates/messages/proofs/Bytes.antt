@@ -1,8 +1,9 @@
 -- A number as bytes, and the fields in it.
-use Rattle.std.proofs.Common.{◌≡◌, ℕ, zero, suc, ◌+◌, ◌-◌, ◌*◌, ◌/◌, ◌%◌, ◌^◌, ◌<◌, ◌≤◌, List, length, get_or, sym, refl, ap, ◌∙◌, mul_assoc, add-mul, zero-add, add-one, arith, ext_get_or, pow-add, shr-shr}
-use lib.Pow.{field, mod-mod-pow, mod-pow-add, high, low}
+use Rattle.std.proofs.Common.{◌≡◌, ℕ, zero, suc, ◌+◌, ◌-◌, ◌*◌, ◌/◌, ◌%◌, ◌^◌, ◌<◌, ◌≤◌, List, [], ◌∷◌, length, get_or, sym, refl, ap, ◌∙◌, zero-add, add-one, arith, ext_get_or, pow-add, pow-suc, shr-shr}
+use lib.Pow.{field, mod-mod-pow, mod-pow-add}
+use Rattle.std.specs.Int.{bytes_high_first}
 use Rattle.messages.specs.Bits.{bit, field as fieldIn, bytes_of}
-use Rattle.messages.proofs.FieldLaws.{field_lt, field_add}
+use Rattle.messages.proofs.FieldLaws.{field_cut, front_of_byte}
 
 pub length_bytes_of : (k n : ℕ) → length (bytes_of k n) ≡ k
 unfolding bytes_of
@@ -44,29 +45,6 @@ field_bytes_of n p (suc w) h =
     let both : n / 2 ^ k % 2 ^ suc w ≡ (n / 2 ^ k / 2 % 2 ^ w) * 2 + n / 2 ^ k % 2 = ap (λ (x : ℕ). n / 2 ^ k % 2 ^ x) (sym (add-one w)) ∙ mod-pow-add (n / 2 ^ k) w 1 in
     omega (arith, front, last, both, ap (λ (x : ℕ). x % 2 ^ w) up, ap (λ (x : ℕ). n / 2 ^ x % 2 ^ suc w) e)
 
--- a field is cut out of all the bits as a number
-pub field_cut : (bs : List ℕ) (p w t : ℕ) → fieldIn bs 0 (p + (w + t)) / 2 ^ t % 2 ^ w ≡ fieldIn bs p w
-field_cut bs p w t =
-    let a = fieldIn bs 0 p in
-    let f = fieldIn bs p w in
-    let l = fieldIn bs (p + w) t in
-    let whole : fieldIn bs 0 (p + (w + t)) ≡ (a * 2 ^ w + f) * 2 ^ t + l =
-    omega (arith, field_add bs 0 p (w + t), ap (λ (x : ℕ). fieldIn bs x (w + t)) (zero-add p), field_add bs p w t, ap (λ (x : ℕ). a * x) (pow-add 2 w t), mul_assoc a (2 ^ w) (2 ^ t), add-mul (a * 2 ^ w) f (2 ^ t)) in
-    ap (λ (x : ℕ). x / 2 ^ t % 2 ^ w) whole ∙ ap (λ (x : ℕ). x % 2 ^ w) (high (a * 2 ^ w + f) t (field_lt bs (p + w) t)) ∙ low a w (field_lt bs p w)
-
--- the first bits of a byte
-front_of_byte : (bs : List ℕ) (j w : ℕ) → get_or bs j 0 < 256 → w ≤ 8 → fieldIn bs (8 * j) w ≡ get_or bs j 0 / 2 ^ (8 - w)
-unfolding fieldIn
-front_of_byte bs j zero b h = omega arith
-front_of_byte bs j (suc w) b h =
-    let x = get_or bs j 0 in
-    let e : (8 * j + w) / 8 ≡ j = omega arith in
-    let f : 7 - (8 * j + w) % 8 ≡ 8 - suc w = omega arith in
-    let g : 8 - suc w + 1 ≡ 8 - w = omega arith in
-    let bitIs : bit bs (8 * j + w) ≡ x / 2 ^ (8 - suc w) % 2 = ap (λ (k : ℕ). get_or bs k 0 / 2 ^ (7 - (8 * j + w) % 8) % 2) e ∙ ap (λ (k : ℕ). x / 2 ^ k % 2) f in
-    let up : x / 2 ^ (8 - suc w) / 2 ≡ x / 2 ^ (8 - w) = shr-shr x (8 - suc w) 1 ∙ ap (λ (k : ℕ). x / 2 ^ k) g in
-    omega (arith, front_of_byte bs j w b (omega arith), bitIs, up)
-
 -- bytes are those of the number that their bits write
 pub bytes_whole : (bs : List ℕ) → length bs ≡ 14 → ((i : ℕ) → get_or bs i 0 < 256) → bytes_of 14 (fieldIn bs 0 112) ≡ bs
 bytes_whole bs len small =
@@ -75,4 +53,15 @@ bytes_whole bs len small =
     (λ j h.
     let lt : j < 14 = omega (arith, length_bytes_of 14 n) in
     let e : 8 * j + (8 + 8 * (14 - 1 - j)) ≡ 112 = omega arith in
-    at_bytes_of 14 n j lt ∙ ap (λ (x : ℕ). fieldIn bs 0 x / 2 ^ (8 * (14 - 1 - j)) % 256) (sym e) ∙ field_cut bs (8 * j) 8 (8 * (14 - 1 - j)) ∙ front_of_byte bs j 8 (small j) (omega arith) ∙ omega arith)
+    at_bytes_of 14 n j lt ∙ ap (λ (x : ℕ). fieldIn bs 0 x / 2 ^ (8 * (14 - 1 - j)) % 256) (sym e) ∙ field_cut bs 0 (8 * j) 8 (8 * (14 - 1 - j)) ∙ ap (λ (x : ℕ). fieldIn bs x 8) (zero-add (8 * j)) ∙ front_of_byte bs j 8 (small j) (omega arith) ∙ omega arith)
+
+-- bytes as the library has them
+bytes_power : (k : ℕ) → 256 ^ k ≡ 2 ^ (8 * k)
+bytes_power zero = omega arith
+bytes_power (suc k) = let e : 8 * k + 8 ≡ 8 * suc k = omega arith in omega (arith, bytes_power k, pow-suc 256 k, sym (pow-add 2 (8 * k) 8) ∙ ap (λ (x : ℕ). 2 ^ x) e)
+
+pub bytes_high : (k n : ℕ) → bytes_high_first k n ≡ bytes_of k n
+unfolding bytes_of
+bytes_high zero n = refl
+bytes_high (suc zero) n = let here : n % 256 ≡ n / 2 ^ (8 * 0) % 256 = omega arith in ap (λ (x : ℕ). x ∷ []) here
+bytes_high (suc (suc k)) n = λ i. n / bytes_power (suc k) i % 256 ∷ bytes_high (suc k) n i

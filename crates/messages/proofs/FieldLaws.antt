@@ -17,18 +17,6 @@ unfolding field
 field_add bs p v zero = rw add-zero (omega arith)
 field_add bs p v (suc w) = rw add-suc (omega (arith, field_add bs p v w, ap (λ (x : ℕ). field bs p v * x) (pow-suc 2 w), mul_assoc (field bs p v) (2 ^ w) 2, ap (bit bs) (add_assoc p v w)))
 
--- one bit more
-pub field_more : (bs : List ℕ) (p i : ℕ) → p ≤ i → field bs p (i + 1 - p) ≡ field bs p (i - p) * 2 + bit bs i
-unfolding field
-field_more bs p i h =
-    let e : i + 1 - p ≡ suc (i - p) = omega arith in
-    let f : p + (i - p) ≡ i = omega arith in
-    ap (field bs p) e ∙ ap (λ (k : ℕ). field bs p (i - p) * 2 + bit bs k) f
-
-pub field_none : (bs : List ℕ) (p : ℕ) → field bs p (p - p) ≡ 0
-unfolding field
-field_none bs p = let e : p - p ≡ 0 = omega arith in ap (field bs p) e
-
 -- a field is cut out of a wider one
 pub field_cut : (bs : List ℕ) (o p w t : ℕ) → field bs o (p + (w + t)) / 2 ^ t % 2 ^ w ≡ field bs (o + p) w
 field_cut bs o p w t =
@@ -40,7 +28,7 @@ field_cut bs o p w t =
     ap (λ (x : ℕ). x / 2 ^ t % 2 ^ w) whole ∙ ap (λ (x : ℕ). x % 2 ^ w) (high (a * 2 ^ w + f) t (field_lt bs (o + p + w) t)) ∙ low a w (field_lt bs (o + p) w)
 
 -- the first bits of a byte
-front_of_byte : (bs : List ℕ) (j w : ℕ) → get_or bs j 0 < 256 → w ≤ 8 → field bs (8 * j) w ≡ get_or bs j 0 / 2 ^ (8 - w)
+pub front_of_byte : (bs : List ℕ) (j w : ℕ) → get_or bs j 0 < 256 → w ≤ 8 → field bs (8 * j) w ≡ get_or bs j 0 / 2 ^ (8 - w)
 unfolding field
 front_of_byte bs j zero b h = omega arith
 front_of_byte bs j (suc w) b h =

@@ -2,7 +2,7 @@ pub mod FieldLaws
 pub mod Offences
 pub mod Passing
 pub mod Fitting
-pub mod Imaging
+pub mod Legs
 pub mod Bytes
 pub mod Trips
 pub mod Coding

@@ -11,13 +11,13 @@ use Rattle.contents.specs.declared.message.Message.TheVariants.{Place, Cancel, E
 use Rattle.messages.specs.Bits.{field}
 use Rattle.contents.specs.Sides.{order_side_coded, leg_side_code, leg_side_coded}
 use Rattle.messages.specs.Laws.{Within}
-use Rattle.messages.specs.Layout.{all_ones, unused_bits, head_layout, order_layout, place_greatest, define_layout, layout}
+use Rattle.messages.specs.Layout.{Capable, all_ones, unused_bits, head_layout, order_layout, place_greatest, define_layout, layout}
 use Rattle.messages.specs.Limits.{twos_complement}
 use Rattle.messages.specs.Reading.{leg_at, leg_count, said}
 use Rattle.messages.specs.Writing.{kind_of, count_of, FourLegged, leg, values_of, limit_ok}
 use Rattle.messages.proofs.Coding.{order_side_bits, order_side_back, leg_side_bits, leg_side_back, mark_bits, mark_back, limit_bits_back, limit_back, limit_fit}
 use Rattle.messages.proofs.FieldLaws.{field_lt}
-use Rattle.messages.proofs.Trips.{values, Tiles, Capable, unused_tiles, unused_capable, unused_values}
+use Rattle.messages.proofs.Trips.{values, Tiles, unused_tiles, unused_capable, unused_values}
 
 -- every layout covers a message
 pub tiles : (k : Kind) (n : ℕ) → Tiles 0 (head_layout ++ layout k n)

@@ -3,7 +3,7 @@ use Rattle.std.proofs.Common.{◌≡◌, ℕ, zero, suc, ◌+◌, ◌-◌, ◌*�
 use lib.Pow.{high, low}
 use Rattle.std.proofs.lemmas.Bool.{and_from, and_parts, le-leb, leb-true, ltb-false}
 use Rattle.messages.specs.Bits.{field, bytes_of}
-use Rattle.messages.specs.Layout.{Field, unused_bits}
+use Rattle.messages.specs.Layout.{Field, Capable, unused_bits}
 use Rattle.messages.specs.Laws.{Within}
 use Rattle.messages.specs.Reading.{first, first_offence}
 use Rattle.messages.specs.Writing.{all_within, image}
@@ -108,11 +108,6 @@ all_to_within bs [] h = tt
 all_to_within bs (f ∷ fs) h =
     let p = and_parts (leb (field bs f.place f.width) f.greatest) (all_within fs (values bs fs)) h in
     (leb-true (field bs f.place f.width) f.greatest p.0, all_to_within bs fs p.1)
-
--- fields whose greatest values have as many bits as they have
-abbrev pub Capable : List Field → Type 0
-Capable [] = Unit {0}
-Capable (f ∷ fs) = (f.greatest < 2 ^ f.width) × Capable fs
 
 pub slim : (fs : List Field) (vs : List ℕ) → Capable fs → length fs ≡ length vs → all_within fs vs ≡ true → Slim fs vs
 slim [] [] c l h = tt

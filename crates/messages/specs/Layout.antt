@@ -1,5 +1,5 @@
 -- The fields of a message: where they stand, and the greatest value that each may have in each kind.
-use Rattle.std.specs.Prelude.{ℕ, zero, suc, ◌+◌, ◌-◌, ◌^◌, Bool, cond, List, [], ◌∷◌, ◌++◌, nat_lt}
+use Rattle.std.specs.Prelude.{ℕ, zero, suc, ◌+◌, ◌-◌, ◌^◌, ◌<◌, Bool, cond, List, [], ◌∷◌, ◌++◌, nat_lt}
 use Rattle.messages.specs.declared.codes.Kind.{Kind}
 use Rattle.messages.specs.declared.codes.Kind.TheVariants.{Place, Cancel, Evaluate, Define}
 use Rattle.contents.specs.declared.time.TimeInForce.TheVariants.{ImmediateOrCancel}
@@ -12,6 +12,11 @@ pub record Field : Type 0 where
   pub width : ℕ
   pub greatest : ℕ
   pub answered : ℕ
+
+-- fields whose greatest values have as many bits as they have
+abbrev pub Capable : List Field → Type 0
+Capable [] = Unit {0}
+Capable (f ∷ fs) = (f.greatest < 2 ^ f.width) × Capable fs
 
 abbrev pub reported_at : ℕ → ℕ → ℕ → ℕ → Field
 reported_at answered place width greatest = record { place = place; width = width; greatest = greatest; answered = answered }

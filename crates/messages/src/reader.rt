@@ -73,6 +73,7 @@ impl BitReader<'_> {
         ensures passed { Passed self.old self.new 104 (define_layout (leg_count self.old.bytes.now)) }
     {
         let count = self.field(4, 15);
+        // four calls: `array::from_fn` does not say where its last call leaves the reader
         let legs = [
             self.leg(0 < count),
             self.leg(1 < count),
