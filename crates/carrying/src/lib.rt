@@ -23,11 +23,7 @@ pub fn entered(number: u32, order: NewOrder) -> Order
     Order {
         strategy: order.strategy,
         buy: order.side == OrderSide::Buy,
-        limit: if order.market {
-            None
-        } else {
-            Some(order.limit)
-        },
+        limit: (!order.market).then_some(order.limit),
         number,
         quantity: order.quantity,
     }

@@ -5,7 +5,6 @@ use Rattle.std.specs.Result.{IsErrAnd}
 use Rattle.std.proofs.lemmas.Result.{err_from_is_err_and}
 use Rattle.std.proofs.lemmas.List.{take_at}
 use Rattle.std.proofs.lemmas.Bool.{leb-false, eqb-true, lt-ltb}
-use Rattle.refusals.specs.declared.reason.Reason.{Reason}
 use Rattle.refusals.specs.declared.reason.Reason.TheVariants.{Memory, Strategy, Quantity, Limit, BookFull, NumbersSpent, NotResting}
 use Rattle.refusals.specs.declared.station.Station.TheVariants.{Opening, Place, Evaluate, Cancel}
 use Rattle.refusals.specs.declared.refusal.Refusal.{Refusal}
@@ -13,7 +12,6 @@ use Rattle.refusals.specs.Refusals.{refused_at}
 use Rattle.simple.specs.Lots.{Lots}
 use Rattle.strategies.specs.declared.leg.Leg.{Leg}
 use Rattle.strategies.specs.declared.row.StrategyRow.{StrategyRow}
-use Rattle.strategies.specs.Rows.{row_fault}
 use Rattle.ranked.specs.Ranking.{ranked_insert}
 use Rattle.rules.specs.declared.order.NewOrder.{NewOrder}
 use Rattle.rules.specs.declared.order.Order.{Order}
@@ -25,17 +23,13 @@ use Rattle.rules.specs.Orders.{order_ahead, dropped, order_with}
 use Rattle.rules.specs.Steps.{trading, steps}
 use Rattle.rules.specs.States.{State, strategy_at}
 use Rattle.rules.specs.Events.{define, place, evaluate, cancel, Answer, defined, placed, evaluated, cancelled, refused, records_told, written_over}
-use Rattle.rules.specs.Calls.{Did, refuse, unless, test, fault_at, entered, limit_lawful, define_refusal, place_refusal, did, cancel_found, evaluate_on, place_on, placed_with}
+use Rattle.rules.specs.Calls.{Did, refuse, unless, test, entered, limit_lawful, define_refusal, place_refusal, did, cancel_found, evaluate_on, place_on, placed_with}
 use Rattle.carrying.specs.Carried.{Carried, Ended}
 
 -- a test that was passed
 passed : (t : Bool) (why : Refusal) (rest : Option Refusal) → None ≡ test t why rest → (t ≡ false) × (None ≡ rest)
 passed true why rest e = let z : ◌≡◌ {A = ℕ} 0 1 = cc in absurd (omega arith)
 passed false why rest e = (refl, e)
-
-faultless : (o : Option Reason) (rest : Option Refusal) → None ≡ fault_at o rest → None ≡ rest
-faultless (Some why) rest e = let z : ◌≡◌ {A = ℕ} 0 1 = cc in absurd (omega arith)
-faultless None rest e = e
 
 is_not : (t : Bool) → not t ≡ false → t ≡ true
 is_not true e = refl
@@ -86,14 +80,6 @@ module _ (xs before after : List Execution) (n : ℕ) (list : after ≡ written_
 -- ## define
 
 module _ (s : State) (row : StrategyRow) where
-  pub define_room : None ≡ define_refusal s row → length s.strategies < 64
-  define_room e =
-      let a = passed _ _ _ e in
-      let b = faultless (row_fault row) _ a.1 in
-      let c = passed _ _ _ b in
-      let d = passed _ _ _ c.1 in
-      leb-false 64 (length s.strategies) d.0
-
   pub define_refused : (b : Lots) (k : ℕ) (why : Refusal) → Some why ≡ define_refusal s row → did s (define row) b k ≡ refuse s b why
   unfolding did
   define_refused b k why e =

@@ -17,14 +17,14 @@ use rules::{FURTHEST_LIMIT, NewOrder};
 use stepping::Defined;
 use strategies::StrategyRow;
 
-// Whether a limit lies within the furthest, or is 0 for a market order.
-fn limit_lawful(market: bool, limit: i64) -> bool
-    ensures { result ≡ limit_lawful market limit }
+// Whether an order's limit lies within the furthest, or is 0 for a market order.
+fn limit_lawful(order: &NewOrder) -> bool
+    ensures { result ≡ limit_lawful order.now.market order.now.limit }
 {
-    if market {
-        limit == 0
+    if order.market {
+        order.limit == 0
     } else {
-        (-FURTHEST_LIMIT..=FURTHEST_LIMIT).contains(&limit)
+        (-FURTHEST_LIMIT..=FURTHEST_LIMIT).contains(&order.limit)
     }
 }
 
@@ -83,7 +83,7 @@ impl<'a> Engine<'a> {
         if !quantity_lawful(order.quantity) {
             return Err(Refusal::at(Station::Place, Reason::Quantity));
         }
-        if !limit_lawful(order.market, order.limit) {
+        if !limit_lawful(order) {
             return Err(Refusal::at(Station::Place, Reason::Limit));
         }
         if self.orders.len() >= ORDER_PLACES {

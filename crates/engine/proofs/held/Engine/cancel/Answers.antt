@@ -1,5 +1,5 @@
 use Rattle.rules.proofs.Obeying.{theorem}
 use Rattle.engine.proofs.held.Engine.cancel.Goals as goal
 
-pub returns : goal.returns
-returns c = record { equation = c.do_cancel.ensures.equation; runs = λ b k lawful. theorem _ _ _ lawful (c.do_cancel.ensures.equation b k) }
+pub returns-clause-runs : goal.returns-clause-runs
+returns-clause-runs c = λ b k lawful. theorem _ _ _ lawful (c.do_cancel.ensures.equation b k)
