@@ -36,10 +36,7 @@ fn leg_of(fields: LegFields) -> Leg
 {
     Leg {
         series: fields.series as u32,
-        bought: match fields.side {
-            LegSide::Bought => true,
-            LegSide::Sold => false,
-        },
+        bought: fields.side == LegSide::Bought,
         ratio: fields.ratio as u32,
     }
 }
