@@ -91,8 +91,12 @@ impl Quotes {
         ensures { result ≡ best_of (side_lots side self) }
     {
         match self.in_rank(side) {
-            (Some(first), Some(second)) => Best::join(Best::join(None, first), second),
-            (Some(lot), None) | (None, Some(lot)) => Best::join(None, lot),
+            (Some(first), Some(second)) if first.price == second.price => Some(Best {
+                price: first.price,
+                size: first.size + second.size,
+                customer: first.customer_size() + second.customer_size(),
+            }),
+            (Some(lot), _) | (None, Some(lot)) => Some(Best::of(lot)),
             (None, None) => None,
         }
     }

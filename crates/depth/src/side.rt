@@ -1,16 +1,16 @@
 //! The lots of one side of one series, which stand together among all lots.
 
-ghost use Rattle.std.specs.Prelude.{◌≡◌, ◌≤◌, length};
+ghost use Rattle.std.specs.Prelude.{◌≡◌, ◌+◌, ◌≤◌, length};
 ghost use Rattle.simple.specs.Limits.{side_limit};
 ghost use Rattle.simple.specs.Lots.{contracts};
-ghost use Rattle.simple.specs.Best.{best_of};
+ghost use Rattle.simple.specs.Best.{best_of, best_size, customer_part, joined};
 ghost use Rattle.ranked.specs.Ranking.{Sorted};
 ghost use Rattle.lots.specs.Rank.{lot_ahead};
 ghost use Rattle.depth.specs.Lots.{stands_on, lots_of, all_lots};
 ghost use Rattle.depth.specs.Running.{stands_before, Stretch};
 
 use lots::PostedLot;
-use simple::{Best, Side};
+use simple::{Best, Lot, Side};
 use std::ops::Range;
 
 /// Whether a lot stands on that side of that series.
@@ -47,6 +47,24 @@ pub(crate) fn of_side(lots: &[PostedLot], series: u32, side: Side) -> &[PostedLo
     &lots[places(lots, series, side)]
 }
 
+/// What is best of a side once a lot follows.
+fn join(best: Option<Best>, lot: Lot) -> Option<Best>
+    requires { (best_size best + lot.size ≤ side_limit) × (customer_part best ≤ best_size best) }
+    ensures answer { result ≡ joined best lot }
+    ensures size { best_size result ≤ best_size best + lot.size }
+    ensures part { customer_part result ≤ best_size result }
+{
+    match best {
+        None => Some(Best::of(lot)),
+        Some(best) if lot.price == best.price => Some(Best {
+            price: best.price,
+            size: best.size + lot.size,
+            customer: best.customer + lot.customer_size(),
+        }),
+        best => best,
+    }
+}
+
 /// The best price of a side's lots, and what stands at it.
 pub(crate) fn best(lots: &[PostedLot]) -> Option<Best>
     requires { contracts (all_lots lots.now) ≤ side_limit }
@@ -55,7 +73,7 @@ pub(crate) fn best(lots: &[PostedLot]) -> Option<Best>
     let mut best = None;
     // No `fold`: its closure would have to take any best, and `join` asks that the sizes fit.
     for entry in lots {
-        best = Best::join(best, entry.lot);
+        best = join(best, entry.lot);
     }
     best
 }

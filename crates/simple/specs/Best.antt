@@ -36,9 +36,13 @@ customer_part (Some b) = b.customer
 abbrev pub customer_size : Lot → ℕ
 customer_size l = cond l.customer l.size 0
 
+-- what is best of a side that has one lot alone
+abbrev pub best_alone : Lot → Best
+best_alone l = record { price = l.price; size = l.size; customer = customer_size l }
+
 -- what is best of a side once a lot follows
 abbrev pub joined : Option Best → Lot → Option Best
-joined None l = Some (record { price = l.price; size = l.size; customer = customer_size l })
+joined None l = Some (best_alone l)
 joined (Some b) l =
     Some (cond (l.price == b.price) (record { price = b.price; size = b.size + l.size; customer = b.customer + customer_size l }) b)
 

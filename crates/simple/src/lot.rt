@@ -1,8 +1,7 @@
 // Sides, lots and what is best of them.
-ghost use Rattle.std.specs.Prelude.{◌≡◌, ◌+◌, ◌≤◌};
-ghost use Rattle.simple.specs.Limits.{side_limit};
+ghost use Rattle.std.specs.Prelude.{◌≡◌, ◌≤◌};
 ghost use Rattle.simple.specs.Lots.{better, precedes};
-ghost use Rattle.simple.specs.Best.{best_size, customer_part, customer_size, joined};
+ghost use Rattle.simple.specs.Best.{customer_size, best_alone};
 
 // The two sides of a series.
 #[derive(Clone, Copy, PartialEq, Eq, Debug)]
@@ -60,25 +59,14 @@ pub struct Best {
 }
 
 impl Best {
-    // What is best of a side once a lot follows those of which this is best.
-    pub fn join(best: Option<Best>, lot: Lot) -> Option<Best>
-        requires { (best_size best + lot.size ≤ side_limit) × (customer_part best ≤ best_size best) }
-        ensures answer { result ≡ joined best lot }
-        ensures size { best_size result ≤ best_size best + lot.size }
-        ensures part { customer_part result ≤ best_size result }
+    // What is best of a side that has one lot alone.
+    pub fn of(lot: Lot) -> Best
+        ensures { result ≡ best_alone lot }
     {
-        match best {
-            None => Some(Best {
-                price: lot.price,
-                size: lot.size,
-                customer: lot.customer_size(),
-            }),
-            Some(best) if lot.price == best.price => Some(Best {
-                price: best.price,
-                size: best.size + lot.size,
-                customer: best.customer + lot.customer_size(),
-            }),
-            best => best,
+        Best {
+            price: lot.price,
+            size: lot.size,
+            customer: lot.customer_size(),
         }
     }
 }
