@@ -83,6 +83,7 @@ fn bytes_text(heap: Global, bytes: &[u8]) -> Result<String, AllocError>
     ensures { IfOk result (λ t. string_bytes t ≡ bytes_text bytes.now) }
 {
     let mut text = String::new(heap);
+    // counted: no plainer without, as a space stands before each byte but the first
     for (i, byte) in bytes.iter().enumerate() {
         text.push_str(gap_before(i))?;
         push_hex_byte(&mut text, *byte)?;
@@ -105,6 +106,7 @@ fn writing(heap: Global, message: &Message) -> Result<String, AllocError>
 fn bytes_in(heap: Global, words: &[&[u8]]) -> Result<Option<Vec<u8>>, AllocError>
     ensures { IfOk result (λ o. option_map vec_items o ≡ bytes_in (lent words.now)) }
 {
+    // a loop: no plainer as a try_collect, which would have to carry two failures, no byte and no memory
     let mut bytes = Vec::new(heap);
     for word in words {
         let Some(byte) = hex_byte(word) else {

@@ -6,6 +6,7 @@ ghost use Rattle.gateway.specs.Texts.{side_text, time_text, limit_text, sign_tex
 use contents::{LegFields, LegSide, Message, OrderSide, Received, TimeInForce};
 use std::alloc::{AllocError, Global};
 
+// A name and no Display, here and below: the types are another crate's, and a wrapper for each would be longer.
 fn side_text(side: OrderSide) -> &'static str
     ensures { result.now ≡ side_text side }
 {
@@ -25,6 +26,7 @@ fn time_text(code: u64) -> &'static str
     }
 }
 
+// The flag and the number are two fields of a message, and a market order may have a number that is not 0.
 fn limit_text(heap: Global, market: bool, limit: i64) -> Result<String, AllocError>
     ensures { IfOk result (λ t. string_bytes t ≡ limit_text market limit) }
 {
@@ -78,6 +80,7 @@ pub(crate) fn message_text(heap: Global, received: &Received) -> Result<String, 
         }
         Message::Define(row) => {
             let count = row.count;
+            // four names: no plainer joined in a loop, as one format has a hole for each
             let first = leg_text(heap, &row.legs[0])?;
             let second = leg_text(heap, &row.legs[1])?;
             let third = leg_text(heap, &row.legs[2])?;

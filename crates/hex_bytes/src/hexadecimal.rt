@@ -40,6 +40,7 @@ fn digit(value: u8) -> char
 }
 
 // Adds a byte as two upper-case digits, or nothing where memory fails. Read again it is the same byte.
+// By hand: as {byte:02X} the proof did not close, as no lemma says which digits a padded number has.
 pub fn push_hex_byte(out: &mut String, byte: u8) -> Result<(), AllocError>
     ensures written { string_bytes out.new ≡ (if is_ok result then string_bytes out.old ++ hex_of byte else string_bytes out.old) }
     ensures read_again { byte_in (hex_of byte) ≡ Some byte }

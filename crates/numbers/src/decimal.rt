@@ -25,6 +25,7 @@ pub fn number(word: &[u8]) -> Option<u64>
     if word.is_empty() {
         return None;
     }
+    // a loop: as a try_fold the proof did not close, as no lemma of the library reads one over a slice
     let mut n = 0;
     for b in word {
         n = with_digit(n, *b)?;

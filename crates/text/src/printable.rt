@@ -21,6 +21,7 @@ fn as_printable(b: u8) -> char
 pub(crate) fn push_printable(out: &mut String, word: &[u8]) -> Result<(), AllocError>
     ensures { string_bytes out.new ≡ (if is_ok result then string_bytes out.old ++ printable_word word.now else string_bytes out.old) }
 {
+    // a loop: as an extend of a map the proof did not close, as the closure stays unknown under extend
     out.reserve(word.len())?;
     for b in word {
         out.push(as_printable(*b))?;
@@ -34,6 +35,7 @@ pub fn printable_line(heap: Global, words: &[&[u8]]) -> Result<String, AllocErro
     ensures read_again { IfOk result (λ line. AllByRecursion Word (lent words.now) → words_of (string_bytes line) ≡ map printable_word (lent words.now)) }
 {
     let mut line = String::new(heap);
+    // counted: no plainer without, as a space stands before each word but the first
     for (i, word) in words.iter().enumerate() {
         if i > 0 {
             line.push(' ')?;
