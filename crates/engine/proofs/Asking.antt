@@ -1,9 +1,6 @@
 -- What a message asks of an engine.
-use Rattle.std.proofs.Common.{◌≡◌, ℕ, ◌^◌, ◌<◌, List, [], ◌∷◌, map, length, Some, None, Ok, Err, sym, refl, ap, ◌∙◌, subst, arith, zero, suc, All, true, false, not, ◌&&◌, leb, is_some}
+use Rattle.std.proofs.Common.{◌≡◌, ℕ, ◌^◌, ◌<◌, List, [], length, Some, None, Ok, Err, sym, refl, ap, ◌∙◌, subst, arith, zero, suc, All}
 use Rattle.refusals.specs.declared.refusal.Refusal.{Refusal}
-use Rattle.refusals.specs.declared.reason.Reason.TheVariants.{Memory, SameLegs, TableFull, Strategy, Quantity, Limit, BookFull, NumbersSpent}
-use Rattle.refusals.specs.declared.station.Station.TheVariants.{Opening, Define, Place}
-use Rattle.refusals.specs.Refusals.{refused_at}
 use Rattle.contents.specs.declared.edition.Edition.{Edition}
 use Rattle.contents.specs.declared.fault.ReaderFault.{ReaderFault}
 use Rattle.contents.specs.declared.message.Received.{Received}
@@ -11,19 +8,16 @@ use Rattle.simple.specs.Lots.{Lots}
 use Rattle.contents.specs.declared.message.LegFields.{LegFields}
 use Rattle.contents.specs.declared.message.Message.{Message}
 use Rattle.contents.specs.declared.message.Message.TheVariants as message
-use Rattle.strategies.specs.declared.leg.Leg.{Leg}
 use Rattle.messages.specs.Writing.{leg, no_leg}
-use Rattle.strategies.specs.Rows.{row_legs, row_fault}
 use Rattle.std.proofs.lemmas.List.Elements.{All-from_get_or}
 use Rattle.messages.specs.Laws.{LegWritten, Written}
 use Rattle.messages.proofs.FieldLaws.{field_below}
 use Rattle.messages.specs.Reading.{read_of}
 use Rattle.rules.specs.declared.answer.Intake.{Intake}
 use Rattle.rules.specs.declared.answer.Intake.TheVariants as intake
-use Rattle.rules.specs.States.{State, strategy_at, stands_among}
-use Rattle.rules.specs.Events.{Call, define, place, evaluate, cancel, unreadable, unread, leg_said, call_said, call_in, call_of, answer_intake}
-use Rattle.rules.specs.Calls.{refuse, did, test, fault_at, limit_lawful}
-use Rattle.rules.specs.Limits.{order_places, strategy_places, most_quantity, most_accepted}
+use Rattle.rules.specs.States.{State}
+use Rattle.rules.specs.Events.{Call, define, place, evaluate, cancel, unreadable, unread, call_said, call_in, call_of, answer_intake}
+use Rattle.rules.specs.Calls.{refuse, did}
 use Rattle.engine.specs.Messages.{NarrowLeg, Narrow, answer_asked}
 use Rattle.engine.proofs.Dids.{memory_test, first_test, stopped, goes_on, define_refused, place_refused}
 
