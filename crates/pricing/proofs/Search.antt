@@ -3,14 +3,12 @@ use Rattle.std.proofs.Common.{◌≡◌, ℕ, zero, suc, ◌+◌, ◌-◌, ◌<�
 use lib.Signed.{le_z}
 use Rattle.std.proofs.lemmas.Int.{ints}
 use Rattle.std.proofs.lemmas.Bool.{cases_eq}
+use Rattle.std.proofs.lemmas.Option.{none-some}
 use Rattle.pricing.specs.declared.market.LegMarket.{LegMarket}
 use Rattle.pricing.specs.declared.market.NetPrice.{NetPrice}
 use Rattle.pricing.specs.Legs.{free, in_places, net_bid, net_offer}
 use Rattle.pricing.specs.Prices.{rest_after, by_leg, customer_rule, rest_at, allowed, leg_prices}
 use Rattle.pricing.specs.Pair.{lowest, highest, tries, nth, priced, first, pair_price}
-
-pub none_some : {X A : Type 0} (a : A) → None ≡ Some a → X
-none_some a e = let z : ◌≡◌ {A = ℕ} 0 1 = cc in absurd (omega arith)
 
 -- the first of n answers
 module _ {X : Type 0} (at : ℕ → Option X) where
@@ -34,11 +32,11 @@ module _ {X : Type 0} (at : ℕ → Option X) where
   first_none_all (suc n) e j h = go (first at n) refl (first_none_all n)
     where
       go : (o : Option X) → first at n ≡ o → (first at n ≡ None → (j : ℕ) → j < n → at j ≡ None) → at j ≡ None
-      go (Some q) eo ih = none_some q (sym (rw eo at e))
+      go (Some q) eo ih = absurd (none-some q (sym (rw eo at e)))
       go None eo ih = ⊎_elim (λ s. rw s (rw eo at e)) (λ ne. ih eo j (omega (arith, ne))) (cases_eq j n)
 
   pub first_some : (n : ℕ) (x : X) → first at n ≡ Some x → (k : ℕ) × (k < n) × (at k ≡ Some x) × ((j : ℕ) → j < k → at j ≡ None)
-  first_some zero x e = none_some x e
+  first_some zero x e = absurd (none-some x e)
   first_some (suc n) x e = go (first at n) refl (first_some n x)
     where
       go : (o : Option X) → first at n ≡ o → (first at n ≡ Some x → (k : ℕ) × (k < n) × (at k ≡ Some x) × ((j : ℕ) → j < k → at j ≡ None)) → (k : ℕ) × (k < suc n) × (at k ≡ Some x) × ((j : ℕ) → j < k → at j ≡ None)

@@ -1,5 +1,5 @@
 -- One leg after another: the definitions over the legs from a place on.
-use Rattle.std.proofs.Common.{◌≡◌, ℕ, ◌+◌, ◌*◌, ◌/◌, ◌<◌, ◌≤◌, Bool, true, false, ◌||◌, List, [], ◌∷◌, ◌++◌, length, get_or, take, drop, set, pos, ◌+ℤ◌, refl, ap, append_assoc, le_trans, mul-le-mul, mul-le-mul_left, arith}
+use Rattle.std.proofs.Common.{◌≡◌, ℕ, ◌+◌, ◌*◌, ◌/◌, ◌<◌, ◌≤◌, Bool, true, false, ◌||◌, List, [], ◌∷◌, ◌++◌, length, get_or, take, drop, set, pos, ◌+ℤ◌, refl, ap, append_assoc, le_trans, mul-le-mul_left, arith}
 use native.Mathlib.Nat.{mul-div-le}
 use Rattle.std.proofs.lemmas.List.{drop_more, take_more_set}
 use Rattle.pricing.specs.declared.market.LegMarket.{LegMarket}
@@ -9,9 +9,6 @@ use Rattle.pricing.specs.Prices.{cents, price_at, left, rest_after, by_leg, at_c
 
 pub cents_fit : (m : LegMarket) (rest : ℕ) → m.ratio * cents m rest ≤ rest
 cents_fit m rest = let h : cents m rest ≤ rest / m.ratio = omega arith in le_trans (mul-le-mul_left m.ratio h) (mul-div-le rest m.ratio)
-
-pub value_bound : (r x : ℕ) → r ≤ 8 → x ≤ 1000000 → r * x ≤ 8000000
-value_bound r x h l = mul-le-mul h l
 
 -- the leg at a place
 abbrev pub leg_at : List LegMarket → ℕ → LegMarket

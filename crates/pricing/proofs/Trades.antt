@@ -5,6 +5,7 @@ use lib.Signed.{le_z}
 use Rattle.std.proofs.lemmas.Int.{ints, clamps}
 use Rattle.std.proofs.lemmas.Bool.{cases_lt, and_parts, true≢false, eqb-true, eq-eqb, ltb-true, lt-ltb, or_left, or_right, or_cases, not-true}
 use Rattle.std.specs.Option.{option_map}
+use Rattle.std.proofs.lemmas.Option.{none-some}
 use Rattle.pricing.specs.declared.market.LegMarket.{LegMarket}
 use Rattle.pricing.specs.declared.market.NetPrice.{NetPrice}
 use Rattle.pricing.specs.Legs.{width, is_open, free, signed, net, offer_part, net_bid, net_offer, in_places}
@@ -12,7 +13,7 @@ use Rattle.pricing.specs.Prices.{cents, price_at, left, rest_after, by_leg, at_c
 use Rattle.pricing.specs.Pair.{lowest, highest, tries, nth, priced, pair_price}
 use Rattle.pricing.specs.Trades.{Each, Any, InMarket, Improving, AtCustomer, Fair, AllFair, Within, NoneWithin, Found, First, Narrower}
 use Rattle.pricing.proofs.Split.{cents_fit}
-use Rattle.pricing.proofs.Search.{none_some, first_none_all, first_some}
+use Rattle.pricing.proofs.Search.{first_none_all, first_some}
 
 clash : {X : Type 0} → true ≡ false → X
 clash e = absurd (true≢false e)
@@ -100,14 +101,14 @@ all_fair ms p xs = go (allowed ms p) refl
   where
     go : (t : Bool) → allowed ms p ≡ t → cond t (Some (by_leg ms (rest_at ms p))) None ≡ Some xs → Fair ms p xs
     go true e s = let same : by_leg ms (rest_at ms p) ≡ xs = cc in rw (← same) (allowed_fair ms p e)
-    go false e s = none_some xs s
+    go false e s = absurd (none-some xs s)
 
 -- a price with leg prices is admissible, and lies in the net market
 priced_tells : (ms : List LegMarket) (p : ℤ) (t : NetPrice) → priced ms p ≡ Some t → (t.price ≡ p) × (admissible ms p ≡ true)
 priced_tells ms p t e = go (leg_prices ms p) e
   where
     go : (o : Option (List ℕ)) → option_map (λ xs. record { price = p; legs = in_places ms xs }) o ≡ Some t → (t.price ≡ p) × (is_some o ≡ true)
-    go None s = none_some t s
+    go None s = absurd (none-some t s)
     go (Some xs) s = let same : record { price = p; legs = in_places ms xs } ≡ t = cc in (ap (λ (u : NetPrice). u.price) (sym same), refl)
 
 unpriced_tells : (ms : List LegMarket) (p : ℤ) → priced ms p ≡ None → admissible ms p ≡ true → ⊥
@@ -115,7 +116,7 @@ unpriced_tells ms p e = go (leg_prices ms p) e
   where
     go : (o : Option (List ℕ)) → option_map {U = NetPrice} (λ xs. record { price = p; legs = in_places ms xs }) o ≡ None → is_some o ≡ true → ⊥
     go None s a = clash (sym a)
-    go (Some xs) s a = none_some (record { price = p; legs = in_places ms xs }) (sym s)
+    go (Some xs) s a = absurd (none-some (record { price = p; legs = in_places ms xs }) (sym s))
 
 admissible_in : (ms : List LegMarket) (p : ℤ) → admissible ms p ≡ true → (net_bid ms ≤ℤ p) × (p ≤ℤ net_offer ms)
 admissible_in ms p a = go (leg_prices ms p) refl a

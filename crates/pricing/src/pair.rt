@@ -38,6 +38,8 @@ fn legs_allow(rest: u32, improved: bool, matched: bool) -> bool
 
 // The first admissible price of the range, cent by cent from the older order's end.
 // No struct of the limits and of who is older is plainer: they are two orders' own, and only `pair_price` passes them on.
+// By rule an outer loop over net prices and an inner one over legs, left by a label; of steps, since a range and its `rev` are two types.
+// Leg prices by place, as in `read_legs`: nothing is known of an array after an adapter of its iter_mut, so no proof of a zip closes.
 fn search(
     market: &StrategyMarket,
     buy_limit: i64,
@@ -54,14 +56,11 @@ fn search(
         return None;
     }
     let mut found = None;
-    // by rule an outer loop over net prices and an inner one over legs, left by a label; its prices by steps, since a range and its `rev` are two types
     'price: for step in 0..=cents_between(low, high) {
         let price = nth_price(buy_is_older, low, high, step);
         let mut rest = cents_between(price, net_offer);
         let mut prices = [0; 4];
-        let mut matched = false;
-        let mut improved = false;
-        // by place, as `read_legs`: the proof of a zip with `prices.iter_mut()` did not close
+        let (mut matched, mut improved) = (false, false);
         for (i, leg) in legs.iter().enumerate() {
             let cents = leg.cents_of(rest);
             rest -= leg.ratio * cents;

@@ -4,9 +4,9 @@ use Rattle.std.specs.List.{AllByRecursion}
 use Rattle.std.proofs.ByRecursion.{all-has, All-weaker}
 use Rattle.std.proofs.lemmas.Int.{ints}
 use Rattle.std.proofs.lemmas.Bool.{and_parts, and_from, eqb-true, eq-eqb, not-true, true≢false}
+use Rattle.std.proofs.lemmas.Option.{none-some}
 use Rattle.ranked.specs.Lex.{lex, first_if, better}
 use Rattle.ranked.specs.Ranking.{Sorted}
-use Rattle.pricing.proofs.Search.{none_some}
 use Rattle.rules.specs.declared.order.Order.{Order}
 use Rattle.rules.specs.Orders.{limit_of, order_ahead, is_of, best_order}
 use Rattle.rules.proofs.Ready.{Ready, Mine}
@@ -69,13 +69,13 @@ module _ (s : ℕ) (buy : Bool) where
   best_none (x ∷ os) e = go (is_of s buy x) refl (best_none os)
     where
       go : (t : Bool) → is_of s buy x ≡ t → (best_order s buy os ≡ None → AllByRecursion (λ o. is_of s buy o ≡ true → ⊥) os) → AllByRecursion (λ o. is_of s buy o ≡ true → ⊥) (x ∷ os)
-      go true et ih = none_some x (sym (rw et at e))
+      go true et ih = absurd (none-some x (sym (rw et at e)))
       go false et ih = (λ m. true≢false (sym m ∙ et), ih (rw et at e))
 
   -- the best order is one of the strategy on that side
   pub best_mine : (os : List Order) (b : Order) → best_order s buy os ≡ Some b → Mine s buy os b
   unfolding best_order
-  best_mine [] b e = none_some b e
+  best_mine [] b e = absurd (none-some b e)
   best_mine (x ∷ os) b e = go (is_of s buy x) refl (best_mine os b)
     where
       go : (t : Bool) → is_of s buy x ≡ t → (best_order s buy os ≡ Some b → Mine s buy os b) → Mine s buy (x ∷ os) b

@@ -4,6 +4,7 @@ use Rattle.std.specs.Option.{option_or, option_map}
 use Rattle.std.proofs.ByRecursion.{all-has}
 use Rattle.std.proofs.lemmas.Int.{ints}
 use Rattle.std.proofs.lemmas.Bool.{leb-true}
+use Rattle.std.proofs.lemmas.Option.{none-some}
 use Rattle.simple.specs.Lots.{Lots}
 use Rattle.strategies.specs.declared.leg.Leg.{Leg}
 use Rattle.pricing.specs.declared.market.LegMarket.{LegMarket}
@@ -14,7 +15,6 @@ use Rattle.pricing.specs.Pair.{priced, pair_price}
 use Rattle.pricing.specs.Legging.{most, net_taken, reaches, legged_quantity, taken_at, Fits}
 use Rattle.pricing.specs.Trades.{Found}
 use Rattle.pricing.specs.Reading.{markets_of}
-use Rattle.pricing.proofs.Search.{none_some}
 use Rattle.pricing.proofs.Trades.{found, all_fair}
 use Rattle.pricing.proofs.Taking.{most_fits}
 use Rattle.rules.specs.declared.order.Order.{Order}
@@ -42,7 +42,7 @@ pub legged_tells : (ms : List LegMarket) (o : Order) (q : ℕ) (z : Step) → le
 legged_tells ms o q z e = go (leb 1 q) refl e
   where
     go : (t : Bool) → leb 1 q ≡ t → cond t (Some (legged o q (taken_at ms o.buy))) None ≡ Some z → (1 ≤ q) × (legged o q (taken_at ms o.buy) ≡ z)
-    go false t e = none_some z e
+    go false t e = absurd (none-some z e)
     go true t e = (leb-true 1 q t, some_same (legged o q (taken_at ms o.buy)) z e)
 
 -- what can be legged: the limit reaches the net price, and so many fit
@@ -67,7 +67,7 @@ module _ (legs : List Leg) (s : ℕ) (os : List Order) (b : Lots) (ready : Ready
   paired x y t ok e = go (leg_prices ms t.price) refl e
     where
       go : (o : Option (List ℕ)) → leg_prices ms t.price ≡ o → option_map (λ xs. record { price = t.price; legs = in_places ms xs }) o ≡ Some t → Paired legs b (execution_of s (pair x y t))
-      go None ep e = none_some t e
+      go None ep e = absurd (none-some t e)
       go (Some xs) ep e =
           let same : record { price = t.price; legs = in_places ms xs } ≡ t = cc in
           record {
@@ -81,12 +81,12 @@ module _ (legs : List Leg) (s : ℕ) (os : List Order) (b : Lots) (ready : Ready
           }
 
   pub fair_pair : (z : Step) (x y : Option Order) → best_order s true os ≡ x → best_order s false os ≡ y → pair_of ms x y ≡ Some z → StepFair legs s os b z
-  fair_pair z None y ex ey e = none_some z e
-  fair_pair z (Some x) None ex ey e = none_some z e
+  fair_pair z None y ex ey e = absurd (none-some z e)
+  fair_pair z (Some x) None ex ey e = absurd (none-some z e)
   fair_pair z (Some x) (Some y) ex ey e = go (pair_price ms (limit_of x) (limit_of y) (ltb x.number y.number)) (found ms (limit_of x) (limit_of y) (ltb x.number y.number)) e
     where
       go : (o : Option NetPrice) → Found ms (limit_of x) (limit_of y) o → option_map (pair x y) o ≡ Some z → StepFair legs s os b z
-      go None f e = none_some z e
+      go None f e = absurd (none-some z e)
       go (Some t) f e =
           let mx = best_mine s true os x ex in
           let my = best_mine s false os y ey in
@@ -96,7 +96,7 @@ module _ (legs : List Leg) (s : ℕ) (os : List Order) (b : Lots) (ready : Ready
           subst P (some_same (pair x y t) z e) (mx, my, f.0.1, f.0.0, omega arith, paired x y t f.1 f.2)
 
   pub fair_leg : (z : Step) (buy : Bool) (x : Option Order) → best_order s buy os ≡ x → leg_of ms x ≡ Some z → StepFair legs s os b z
-  fair_leg z buy None ex e = none_some z e
+  fair_leg z buy None ex e = absurd (none-some z e)
   fair_leg z buy (Some x) ex e = let mine = best_mine s buy os x ex in go (legged_quantity ms x.buy (limit_of x) x.quantity) (reached ms x.buy (limit_of x) x.quantity) (record { rests = mine.rests; strategy = mine.strategy; side = refl }) e
     where
       go : (q : ℕ) → (1 ≤ q → Reached ms x.buy (limit_of x) x.quantity q) → Mine s x.buy os x → leg_for ms x q ≡ Some z → StepFair legs s os b z
@@ -121,5 +121,5 @@ unfolding step_of
 fair_step legs s os b y ready e = go (markets_of b legs) refl e
   where
     go : (o : Option (List LegMarket)) → markets_of b legs ≡ o → step_on o (best_order s true os) (best_order s false os) ≡ Some y → StepFair legs s os b y
-    go None eo e = none_some y e
+    go None eo e = absurd (none-some y e)
     go (Some ms) eo e = fair_with legs s os b ready ms eo y e

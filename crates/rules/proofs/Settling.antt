@@ -4,6 +4,7 @@ use Rattle.std.specs.Option.{option_or, option_map}
 use Rattle.std.proofs.ByRecursion.{all-has}
 use Rattle.std.proofs.lemmas.Int.{ints}
 use Rattle.std.proofs.lemmas.Bool.{leb-true, le-leb}
+use Rattle.std.proofs.lemmas.Option.{none-some}
 use Rattle.simple.specs.Lots.{Lots}
 use Rattle.strategies.specs.declared.leg.Leg.{Leg}
 use Rattle.pricing.specs.declared.market.LegMarket.{LegMarket}
@@ -12,7 +13,6 @@ use Rattle.pricing.specs.Pair.{pair_price}
 use Rattle.pricing.specs.Legging.{most, reaches, legged_quantity, taken_at}
 use Rattle.pricing.specs.Trades.{NoneWithin}
 use Rattle.pricing.specs.Reading.{markets_of}
-use Rattle.pricing.proofs.Search.{none_some}
 use Rattle.pricing.proofs.Trades.{found, none_found}
 use Rattle.pricing.proofs.Taking.{most_some, eased}
 use Rattle.rules.specs.declared.order.Order.{Order}
@@ -24,23 +24,23 @@ use Rattle.rules.proofs.Bests.{best_mine, bettered, none_mine}
 -- the parts of a step that is none
 pub or_none : (x y : Option Step) → option_or x y ≡ None → (x ≡ None) × (y ≡ None)
 or_none None y e = (refl, e)
-or_none (Some x) y e = none_some x (sym e)
+or_none (Some x) y e = absurd (none-some x (sym e))
 
 pub older_none : (x y : Option Step) → older x y ≡ None → (x ≡ None) × (y ≡ None)
 older_none None y e = (refl, e)
-older_none (Some x) None e = none_some x (sym e)
+older_none (Some x) None e = absurd (none-some x (sym e))
 older_none (Some x) (Some y) e = go (ltb (number_in x) (number_in y)) e
   where
     go : (t : Bool) → cond t (Some x) (Some y) ≡ None → (Some x ≡ None) × (Some y ≡ None)
-    go true e = none_some x (sym e)
-    go false e = none_some y (sym e)
+    go true e = absurd (none-some x (sym e))
+    go false e = absurd (none-some y (sym e))
 
 pub unpaired : (x y : Order) (o : Option NetPrice) → option_map (pair x y) o ≡ None → o ≡ None
 unpaired x y None e = refl
-unpaired x y (Some t) e = none_some (pair x y t) (sym e)
+unpaired x y (Some t) e = absurd (none-some (pair x y t) (sym e))
 
 pub unlegged : (ms : List LegMarket) (o : Order) (q : ℕ) → leg_for ms o q ≡ None → 1 ≤ q → ⊥
-unlegged ms o q e h = let t : leb 1 q ≡ true = le-leb 1 q h in none_some (legged o q (taken_at ms o.buy)) (sym (rw t at e))
+unlegged ms o q e h = let t : leb 1 q ≡ true = le-leb 1 q h in absurd (none-some (legged o q (taken_at ms o.buy)) (sym (rw t at e)))
 
 pub not_legged : (ms : List LegMarket) (o : Order) (q : ℕ) → (1 ≤ q → ⊥) → leg_for ms o q ≡ None
 not_legged ms o q h = go (leb 1 q) refl
