@@ -1,7 +1,7 @@
 -- What a board shows once the quotes of a side are replaced, and when it opens.
-use Rattle.std.proofs.Common.{◌≡◌, ℕ, ◌<◌, ◌≤◌, true, false, cond, eqb, ltb, [], length, get_or, set, replicate, Ok, refl, sym, ap, ◌∙◌, inl, inr, subst, arith}
+use Rattle.std.proofs.Common.{◌≡◌, ℕ, ◌<◌, ◌≤◌, true, false, cond, eqb, ltb, [], length, get_or, set, replicate, refl, sym, ap, ◌∙◌, inl, inr, arith}
 use mathlib.Core.Path.{fun_ext}
-use Rattle.std.proofs.lemmas.Bool.{cases_Bool, cond-true, eqb-true, eqb-false, ltb-false, le-ltb, or_parts}
+use Rattle.std.proofs.lemmas.Bool.{cases_Bool, eqb-true, le-ltb}
 use Rattle.std.proofs.lemmas.List.{get_or-set_same, get_or-set_other, get_or-replicate}
 use Rattle.std.proofs.lemmas.Bool.Decides.{nat_tests}
 use Rattle.simple.specs.declared.lot.Side.{Side}
@@ -10,11 +10,8 @@ use Rattle.boards.specs.declared.quote.Quotes.{Quotes}
 use Rattle.boards.specs.declared.quote.Sides.{Sides}
 use Rattle.boards.specs.declared.board.QuoteBoard.{QuoteBoard}
 use Rattle.boards.specs.Limits.{last_quoted, quoted_count}
-use Rattle.simple.specs.Lots.{Lots, with_side}
-use Rattle.boards.specs.Board.{side_lots, quotes_of, quotes_at, board_lots, no_quotes, no_sides}
-use Rattle.simple.specs.Best.{best_of, best_size}
-use Rattle.simple.specs.Take.{take_answer}
-use Rattle.simple.specs.TakeMoved.{passed, take_within}
+use Rattle.simple.specs.Lots.{with_side}
+use Rattle.boards.specs.Board.{side_lots, quotes_of, board_lots, no_quotes, no_sides}
 
 -- the board with the two quotes of one side replaced
 abbrev pub with_quotes : QuoteBoard → ℕ → Side → Quotes → QuoteBoard
@@ -62,21 +59,3 @@ row_none p q e f s d low =
     both : (d : Side) → quotes_of (record { bids = p; offers = q }) d ≡ no_quotes
     both Bid = e
     both Offer = f
-
--- something is taken
-take_some : (b : Lots) (s : ℕ) (d : Side) (q : ℕ) → Ok tt ≡ take_answer b s d q → q ≡ 0 → ⊥
-take_some b s d q h =
-    let some = (passed _ _ _ (passed _ _ _ h).1).0 in
-    eqb-false q 0 (or_parts (eqb q 0) (ltb (best_size (best_of (b s d))) q) some).0
-
--- what can be taken stands on a series that the board carries
-pub take_carried : (b : QuoteBoard) (s : ℕ) (d : Side) (q : ℕ) → Ok tt ≡ take_answer (board_lots b) s d q → s ≤ last_quoted
-take_carried b s d q h =
-    let some = take_some (board_lots b) s d q h in
-    elim (ltb last_quoted s) as (λ t. ltb last_quoted s ≡ t → s ≤ last_quoted) [
-      | true ↦ λ e.
-          let empty : board_lots b s d ≡ [] = cond-true (ltb last_quoted s) [] (side_lots d (quotes_at b s d)) e in
-          let none : q ≤ 0 = subst (λ ls. q ≤ best_size (best_of ls)) empty (take_within (board_lots b) s d q h) in
-          absurd (some (omega arith))
-      | false ↦ λ e. ltb-false last_quoted s e
-    ] refl

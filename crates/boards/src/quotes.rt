@@ -24,7 +24,7 @@ impl Quote {
         })
     }
 
-    // The quote as a lot.
+    // The quote as a lot. No `From`: a quote does not say whose it is.
     fn lot(self, customer: bool) -> Lot
         ensures is { result ≡ quote_lot customer self }
         ensures small { result.size ≤ lot_limit }

@@ -17,9 +17,6 @@ use Rattle.depth.specs.Take.{reduced, take_lots}
 use Rattle.depth.specs.Soundness.{sound_out}
 use Rattle.depth.proofs.Changes.{take_meaning, side_within}
 
-pub sound_none : (xs : List PostedLot) (n : ℕ) → xs ≡ [] → Sound xs n
-sound_none xs n e = subst (λ (ys : List PostedLot). Sound ys n) (sym e) (record { ranked = tt; numbers = tt; fit = tt; within = λ s d. omega arith })
-
 -- the facts of the lots at hand
 module _ (xs ys : List PostedLot) (n : ℕ) (z : ∥ Sound xs n ∥₁) (is : ys ≡ xs) where
   pub sorted_now : Sorted lot_ahead ys

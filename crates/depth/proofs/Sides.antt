@@ -1,9 +1,9 @@
 -- Where the lots of a side stand among all lots.
-use Rattle.std.proofs.Common.{◌≡◌, ℕ, zero, suc, ◌+◌, ◌-◌, ◌<◌, ◌≤◌, Bool, true, false, List, [], ◌∷◌, ◌++◌, length, get_or, take, drop, sym, refl, ap, ◌∙◌, subst, inl, inr, one-add, arith}
+use Rattle.std.proofs.Common.{◌≡◌, ℕ, zero, suc, ◌+◌, ◌-◌, ◌≤◌, Bool, true, false, List, [], ◌∷◌, ◌++◌, length, take, drop, sym, refl, ap, ◌∙◌, subst, inl, inr, one-add, arith}
 use Rattle.std.specs.List.{prefix_len, sum_by, AllByRecursion}
 use Rattle.std.specs.List.Sorted.{IsPartitionedBy, IsPartitionPoint}
 use Rattle.std.proofs.ByRecursion.{All-weaker, All-get_or}
-use Rattle.std.proofs.lemmas.List.{take-append-drop, drop-drop, drop_more, append-nil, length-drop}
+use Rattle.std.proofs.lemmas.List.{take-append-drop, drop-drop, append-nil, length-drop}
 use Rattle.std.proofs.lemmas.List.Sums.{prefix_len-le-length, prefix_len_is}
 use Rattle.std.proofs.lemmas.List.Recursion.{is_sum_by}
 use Rattle.std.proofs.lemmas.Bool.{cond-true, cond-false, cases_Bool}
@@ -21,10 +21,6 @@ use Rattle.depth.proofs.Takes.{sorted_drop, start_none}
 -- what no place holds
 abbrev pub no_lot : PostedLot
 no_lot = record { series = 0; side = Bid; lot = record { price = 0; size = 0; customer = false }; number = 0 }
-
--- all lots from one place on
-pub lots_more : (xs : List PostedLot) (i : ℕ) → i < length xs → all_lots (drop i xs) ≡ (get_or xs i no_lot).lot ∷ all_lots (drop (i + 1) xs)
-lots_more xs i lt = ap all_lots (drop_more xs i no_lot lt)
 
 pub contracts_sum : (xs : List PostedLot) → contracts (all_lots xs) ≡ sum_by (λ x. x.lot.size) xs
 contracts_sum = is_sum_by (λ xs. contracts (all_lots xs)) (λ x. x.lot.size) refl (λ x xs. refl)

@@ -53,6 +53,7 @@ pub(crate) fn best(lots: &[PostedLot]) -> Option<Best>
     ensures { result ≡ best_of (all_lots lots.now) }
 {
     let mut best = None;
+    // No `fold`: its closure would have to take any best, and `join` asks that the sizes fit.
     for entry in lots {
         best = Best::join(best, entry.lot);
     }

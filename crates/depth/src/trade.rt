@@ -21,6 +21,7 @@ fn whole(lots: &[PostedLot], quantity: u32) -> (usize, u32)
     ensures next { IfSome (slice_get lots.now result.0) (λ x. result.1 < x.lot.size) }
 {
     let mut left = quantity;
+    // `position` would be no plainer: its closure would have to count down what is left.
     for (i, entry) in lots.iter().enumerate() {
         if left < entry.lot.size {
             return (i, left);

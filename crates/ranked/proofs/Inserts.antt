@@ -1,11 +1,9 @@
 -- What it does to a list to put an entry in where it belongs.
-use Rattle.std.proofs.Common.{◌≡◌, ℕ, ◌+◌, ◌≤◌, Bool, true, false, cond, not, List, [], ◌∷◌, length, take, filter, sym, refl, ap, ◌∙◌, inl, inr, add-one, one-add, arith, length-take}
+use Rattle.std.proofs.Common.{◌≡◌, ℕ, Bool, true, false, cond, not, List, [], ◌∷◌, filter, sym, refl, ap, ◌∙◌, inl, inr, one-add}
 use Rattle.std.specs.List.{insert, AllByRecursion}
 use Rattle.std.specs.List.Sorted.{IsPermutation}
 use Rattle.std.proofs.ByRecursion.{All-weaker}
-use Rattle.std.proofs.lemmas.Int.{clamps}
-use Rattle.std.proofs.lemmas.List.Sums.{prefix_len-le-length}
-use Rattle.std.proofs.lemmas.List.Sorted.{IsPermutation-refl, IsPermutation-cons, IsPermutation-trans, length_permutation}
+use Rattle.std.proofs.lemmas.List.Sorted.{IsPermutation-refl, IsPermutation-cons, IsPermutation-trans}
 use Rattle.std.proofs.lemmas.Bool.{cases_Bool, both_ways, not_from_false}
 use Rattle.ranked.specs.Ranking.{place_of, ranked_insert, parted_by, Pairwise, Sorted, Distinct, Absent}
 use Rattle.ranked.specs.Laws.{LawfulInsertion}
@@ -20,10 +18,6 @@ module _ {X : Type 0} (ahead : X → X → Bool) (e : X) where
         | inl h ↦ simp (h, one-add) (ap (λ ys. x ∷ ys) (insert_is xs))
         | inr h ↦ simp h
       ]
-
-  -- that place is no further on than the last entry
-  pub place_within : (xs : List X) (n : ℕ) → place_of ahead e (take n xs) ≤ n
-  place_within xs n = omega (arith, clamps, prefix_len-le-length (λ x. ahead x e) (take n xs), length-take n xs)
 
   -- what holds of e and of each entry holds of each afterwards
   pub all_insert : (P : X → Type 0) (xs : List X) → P e → AllByRecursion P xs → AllByRecursion P (ranked_insert ahead e xs)
@@ -42,10 +36,6 @@ module _ {X : Type 0} (ahead : X → X → Bool) (e : X) where
             (IsPermutation-cons x (e ∷ xs) (ranked_insert ahead e xs) (insert_keeps xs))
         | false ↦ IsPermutation-refl (e ∷ x ∷ xs)
       ]
-
-  -- and so there is one entry more
-  pub insert_count : (xs : List X) → length (ranked_insert ahead e xs) ≡ length xs + 1
-  insert_count xs = length_permutation (e ∷ xs) (ranked_insert ahead e xs) (insert_keeps xs) ∙ sym (add-one (length xs))
 
   -- what e and each entry are to one another, all entries are afterwards
   insert_pairwise : (R : X → X → Type 0) (xs : List X) → AllByRecursion (λ x. R x e) xs → AllByRecursion (R e) xs → Pairwise R xs → Pairwise R (ranked_insert ahead e xs)

@@ -1,11 +1,11 @@
 -- What it does to a list to take an entry out.
-use Rattle.std.proofs.Common.{◌≡◌, ℕ, zero, suc, ◌≤◌, Bool, true, false, not, eqb, ◌++◌, List, [], ◌∷◌, take, drop, Some, None, sym, ap, ◌∙◌, subst, arith}
+use Rattle.std.proofs.Common.{◌≡◌, ℕ, zero, suc, ◌≤◌, Bool, true, false, not, eqb, ◌++◌, List, [], ◌∷◌, take, drop, Some, sym, ap, ◌∙◌, subst, arith}
 use Rattle.std.specs.List.{slice_get, remove, AllByRecursion}
 use Rattle.std.specs.List.Sorted.{IsPermutation}
 use Rattle.std.proofs.ByRecursion.{All-weaker, All-append, All-take, All-drop}
 use Rattle.std.proofs.lemmas.List.Sorted.{IsPermutation-refl, IsPermutation-cons, IsPermutation-trans}
 use Rattle.std.proofs.lemmas.Bool.{cond-true, cond-false, eq-eqb, ne_eqb}
-use Rattle.ranked.specs.Ranking.{without, Pairwise, Distinct, Absent}
+use Rattle.ranked.specs.Ranking.{without, Pairwise, Distinct}
 use Rattle.ranked.specs.Laws.{LawfulRemoval, LawfulRangeRemoval}
 use Rattle.ranked.proofs.Lists.{kept_all, all_nth, swap_first}
 
@@ -42,12 +42,6 @@ removed_others serial (y ∷ xs) (suc i) x at d =
     let stays : not (eqb (serial y) (serial x)) ≡ true = ap not (ne_eqb (serial y) (serial x) (all_nth (λ z. serial y ≡ serial z → ⊥) xs i x at d.0)) in
     ap (λ ys. y ∷ ys) (removed_others serial xs i x at d.1) ∙ sym (cond-true _ _ _ stays)
 
--- where no entry has a number, all stay
-pub without_absent : {X : Type 0} (serial : X → ℕ) (n : ℕ) (xs : List X) → Absent serial n xs → without serial n xs ≡ xs
-without_absent serial n xs a =
-    kept_all (λ x. not (eqb (serial x) n)) xs
-    (All-weaker (λ x. serial x ≡ n → ⊥) (λ x. not (eqb (serial x) n) ≡ true) (λ x ne. ap not (ne_eqb (serial x) n ne)) xs a)
-
 module _ {X : Type 0} (ahead : X → X → Bool) (serial : X → ℕ) (xs : List X) where
   pub lawful_removal : (i : ℕ) (e : X) → slice_get xs i ≡ Some e → LawfulRemoval ahead serial xs (Some e) (remove xs i)
   lawful_removal i e at = record {
@@ -55,15 +49,6 @@ module _ {X : Type 0} (ahead : X → X → Bool) (serial : X → ℕ) (xs : List
     sorted = removed_pairwise (λ x y. ahead x y ≡ true) xs i;
     distinct = removed_pairwise (λ x y. serial x ≡ serial y → ⊥) xs i;
     keeps = removed_keeps xs i e at;
-  }
-
-  -- there is no such place
-  pub no_removal : LawfulRemoval ahead serial xs None xs
-  no_removal = record {
-    others = λ x none _. absurd (let z : ◌≡◌ {A = ℕ} 0 1 = cc in omega arith);
-    sorted = λ s. s;
-    distinct = λ d. d;
-    keeps = IsPermutation-refl xs;
   }
 
 -- the entries of a range of places are gone

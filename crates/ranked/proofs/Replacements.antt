@@ -1,9 +1,9 @@
 -- What it does to a list to put another entry in the place of one.
-use Rattle.std.proofs.Common.{◌≡◌, ℕ, zero, suc, Bool, true, List, [], ◌∷◌, set, Some, None, sym, refl, ◌∙◌, subst, arith}
+use Rattle.std.proofs.Common.{◌≡◌, ℕ, zero, suc, Bool, true, List, [], ◌∷◌, set, Some, sym, refl, ◌∙◌, subst, arith}
 use Rattle.std.specs.List.{slice_get, AllByRecursion}
 use Rattle.std.specs.List.Sorted.{IsPermutation}
 use Rattle.std.proofs.ByRecursion.{All-weaker}
-use Rattle.std.proofs.lemmas.List.Sorted.{IsPermutation-refl, IsPermutation-cons, IsPermutation-trans}
+use Rattle.std.proofs.lemmas.List.Sorted.{IsPermutation-cons, IsPermutation-trans}
 use Rattle.ranked.specs.Ranking.{Pairwise, Sorted, Distinct, Level}
 use Rattle.ranked.specs.Laws.{LawfulReplacement}
 use Rattle.ranked.proofs.Lists.{swap_first}
@@ -50,7 +50,3 @@ module _ {X : Type 0} (ahead : X → X → Bool) (serial : X → ℕ) (e : X) (x
     distinct = λ same. replaced_distinct xs i e serial (λ y here. same y (sym at ∙ here));
     keeps = replaced_keeps xs i e x at;
   }
-
-  -- there is no such place
-  pub no_replacement : LawfulReplacement ahead serial e xs None xs
-  no_replacement = record { sorted = λ _ s. s; distinct = λ _ d. d; keeps = IsPermutation-refl xs }

@@ -11,7 +11,8 @@ use crate::slots;
 use std::ops::Range;
 
 /// Entries in rank, in slots that the caller lends: the first `len` of them, or all if there are fewer.
-/// It has no invariant of its own, so that a struct that has one can hold it by value.
+/// It has no invariant of its own, so that a struct that has one can hold it by value. The count stands beside
+/// the slots: they are the caller's, and hold what they held behind the entries; a `Vec` needs a heap.
 #[derive(Drop)]
 pub struct RankedList<'a, E> {
     slots: &'a mut [E],

@@ -10,7 +10,7 @@ pub trait Ranked: Copy {
     // The number of an entry.
     ghost serial: { Self → ℕ };
 
-    /// Whether this entry is ahead of the other.
+    /// Whether this entry is ahead of the other. No `Ord`: of entries with one number nothing is asked.
     fn is_ahead(&self, other: &Self) -> bool
         ensures { result ≡ ahead self.now other.now };
 

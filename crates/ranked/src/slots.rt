@@ -26,7 +26,8 @@ pub(crate) fn place_with<E: Ranked>(entries: &[E], number: u32) -> Option<usize>
 
 /// Where an entry belongs among those of a list. A walk from the front: the entries need not be in rank.
 pub(crate) fn place_of<E: Ranked>(entries: &[E], e: &E) -> usize
-    ensures { result ≡ place_of E.ahead e.now entries.now }
+    ensures place { result ≡ place_of E.ahead e.now entries.now }
+    ensures within { result ≤ length entries.now }
 {
     entries
         .iter()
@@ -36,7 +37,7 @@ pub(crate) fn place_of<E: Ranked>(entries: &[E], e: &E) -> usize
 
 /// Puts an entry in among the first `n`, at the place where it belongs: those from there on move up by one slot.
 pub(crate) fn put_in<E: Ranked>(slots: &mut [E], n: usize, place: usize, e: E)
-    requires within { n < length slots.old }
+    requires within { (place ≤ n) × (n < length slots.old) }
     requires place { place ≡ place_of E.ahead e (take n slots.old) }
     ensures after { take (n + 1) slots.new ≡ ranked_insert E.ahead e (take n slots.old) }
     ensures laws { LawfulInsertion E.ahead E.serial e (take n slots.old) true (take (n + 1) slots.new) }

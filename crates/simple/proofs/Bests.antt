@@ -41,6 +41,3 @@ best_on_none (l ∷ ls) =
     let same : eqb l.price l.price ≡ true = eq-eqb l.price l.price refl in
     let part = part_first l.customer l (customers (at_price l.price ls)) in
     rw (same, best_on_some l.price l.size (cond l.customer l.size 0) ls, ← part)
-
-pub best_more : (t o o' : Option Best) (l : Lot) (ls ls' : List Lot) → t ≡ best_on o ls → ls ≡ l ∷ ls' → o' ≡ joined o l → t ≡ best_on o' ls'
-best_more t o o' l ls ls' inv e j = inv ∙ ap (best_on o) e ∙ ap (λ b. best_on b ls') (sym j)

@@ -33,7 +33,8 @@ pub struct Lot {
 }
 
 impl Lot {
-    // Whether the lot may stand ahead of another on a side.
+    // Whether the lot may stand ahead of another on a side. No `Ord`: equal lots precede one another, and the
+    // better price is the side's to say.
     pub fn precedes(self, other: Lot, side: Side) -> bool
         ensures { result ≡ precedes side self other }
     {

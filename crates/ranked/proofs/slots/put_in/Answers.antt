@@ -1,23 +1,11 @@
 -- `put_in`: the entries from the place on stand one slot higher.
-use Rattle.std.proofs.Common.{◌≡◌, ◌+◌, true, List, take, set, sym, ap, ◌∙◌, subst, arith, rules}
+use Rattle.std.proofs.Common.{◌≡◌, ◌+◌, true, List, take, set, sym, ap, ◌∙◌, subst}
 use Rattle.std.specs.List.{insert}
 use Rattle.ranked.specs.Laws.{LawfulInsertion}
 use Rattle.ranked.specs.Ranking.{ranked_insert}
-use Rattle.ranked.proofs.Inserts.{insert_is, place_within, lawful_insertion}
+use Rattle.ranked.proofs.Inserts.{insert_is, lawful_insertion}
 use Rattle.ranked.proofs.Shifts.{shifted_up}
 use Rattle.ranked.proofs.slots.put_in.Goals as goal
-
-pub overflow_add-place : goal.overflow_add-place
-overflow_add-place g c = let le = place_within g.E.Ranked.ahead c.args.e c.args.slots.now c.args.n in search rules
-
-pub copy_within-requires : goal.copy_within-requires
-copy_within-requires g c = let le = place_within g.E.Ranked.ahead c.args.e c.args.slots.now c.args.n in search rules
-
-pub offset_bounds-slots-place : goal.offset_bounds-slots-place
-offset_bounds-slots-place g c = let le = place_within g.E.Ranked.ahead c.args.e c.args.slots.now c.args.n in search rules
-
-pub bounds-slots-place : goal.bounds-slots-place
-bounds-slots-place g c = let le = place_within g.E.Ranked.ahead c.args.e c.args.slots.now c.args.n in search rules
 
 pub returns : goal.returns
 returns g c =
@@ -27,10 +15,9 @@ returns g c =
     let i = c.args.place in
     let e = c.args.e in
     let was = take n c.args.slots.now in
-    let le = place_within ahead e c.args.slots.now n in
     let is : take (n + 1) (set c.copy_within.new.self i e) ≡ ranked_insert ahead e was =
     ap (λ xs. take (n + 1) (set xs i e)) c.copy_within.ensures.after
-    ∙ shifted_up c.args.slots.now n i e (omega arith) c.requires.within
+    ∙ shifted_up c.args.slots.now n i e c.requires.within.0 c.requires.within.1
     ∙ ap (λ i. insert was i e) c.requires.place
     ∙ sym (insert_is ahead e was) in
     let laws = lawful_insertion ahead e g.met.E.Ranked.transitive serial g.met.E.Ranked.connected was in
