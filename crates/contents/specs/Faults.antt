@@ -17,7 +17,7 @@ reader_refusal fault = record { station = Reader; reason = fault.reason; bit = f
 
 -- there is one reason why a message is not written
 abbrev pub writer_fault : WriterFault
-writer_fault = record { }
+writer_fault = record {}
 
 abbrev pub writer_refusal : Refusal
 writer_refusal = refused_at Writer Unwritable

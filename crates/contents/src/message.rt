@@ -8,8 +8,9 @@ use crate::sides::{LegSide, OrderSide};
 pub struct PlaceFields {
     pub strategy: u64,
     pub side: OrderSide,
+    // a mark beside the limit: a message may write both, and the rules refuse it
     pub market: bool,
-    // a code, since a message may have one that no time has, and is then refused
+    // a code: a message may write one that no time in force has, and the reader refuses it
     pub time_in_force: u64,
     pub limit: i64,
     pub quantity: u64,

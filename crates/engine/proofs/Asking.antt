@@ -1,5 +1,5 @@
 -- What a message asks of an engine.
-use Rattle.std.proofs.Common.{◌≡◌, ℕ, ◌^◌, ◌<◌, List, [], ◌∷◌, map, length, Some, None, Ok, Err, sym, refl, ap, ◌∙◌, subst, arith}
+use Rattle.std.proofs.Common.{◌≡◌, ℕ, zero, suc, ◌^◌, ◌<◌, All, List, [], length, Some, None, Ok, Err, sym, refl, ap, ◌∙◌, subst, arith}
 use Rattle.refusals.specs.declared.refusal.Refusal.{Refusal}
 use Rattle.contents.specs.declared.edition.Edition.{Edition}
 use Rattle.contents.specs.declared.fault.ReaderFault.{ReaderFault}
@@ -8,37 +8,32 @@ use Rattle.simple.specs.Lots.{Lots}
 use Rattle.contents.specs.declared.message.LegFields.{LegFields}
 use Rattle.contents.specs.declared.message.Message.{Message}
 use Rattle.contents.specs.declared.message.Message.TheVariants as message
-use Rattle.strategies.specs.declared.leg.Leg.{Leg}
-use Rattle.messages.specs.Writing.{leg}
+use Rattle.std.proofs.lemmas.List.Elements.{All-from_get_or}
+use Rattle.messages.specs.Writing.{no_leg, leg}
 use Rattle.messages.specs.Laws.{LegWritten, Written}
 use Rattle.messages.proofs.FieldLaws.{field_below}
 use Rattle.messages.specs.Reading.{read_of}
 use Rattle.rules.specs.declared.answer.Intake.{Intake}
 use Rattle.rules.specs.declared.answer.Intake.TheVariants as intake
 use Rattle.rules.specs.States.{State}
-use Rattle.rules.specs.Events.{Call, define, place, evaluate, cancel, unreadable, unread, leg_said, call_said, call_in, call_of, answer_intake}
+use Rattle.rules.specs.Events.{Call, define, place, evaluate, cancel, unreadable, unread, call_said, call_in, call_of, answer_intake}
 use Rattle.rules.specs.Calls.{refuse, did}
 use Rattle.engine.specs.Messages.{NarrowLeg, Narrow, answer_asked}
 use Rattle.engine.proofs.Dids.{memory_test, first_test, stopped, goes_on, define_refused, place_refused}
 
--- a list of four is its four places
-pub four : (ls : List LegFields) → length ls ≡ 4 → ls ≡ leg ls 0 ∷ leg ls 1 ∷ leg ls 2 ∷ leg ls 3 ∷ []
-four [] e = absurd (omega arith)
-four (a ∷ []) e = absurd (omega arith)
-four (a ∷ b ∷ []) e = absurd (omega arith)
-four (a ∷ b ∷ c ∷ []) e = absurd (omega arith)
-four (a ∷ b ∷ c ∷ d ∷ []) e = refl
-four (a ∷ b ∷ c ∷ d ∷ x ∷ ls) e = absurd (omega arith)
-
-pub four_said : (ls : List LegFields) (a b c d : Leg) → length ls ≡ 4 → a ≡ leg_said (leg ls 0) → b ≡ leg_said (leg ls 1) → c ≡ leg_said (leg ls 2) → d ≡ leg_said (leg ls 3) → a ∷ b ∷ c ∷ d ∷ [] ≡ map leg_said ls
-four_said ls a b c d long ea eb ec ed =
-    let said : List Leg = leg_said (leg ls 0) ∷ leg_said (leg ls 1) ∷ leg_said (leg ls 2) ∷ leg_said (leg ls 3) ∷ [] in
-    let here : a ∷ b ∷ c ∷ d ∷ [] ≡ said = cc in
-    here ∙ sym (ap (map leg_said) (four ls long))
-
 -- what was read fits
 leg_narrow : (bytes : List ℕ) (at : ℕ) (l : LegFields) → LegWritten bytes at l → NarrowLeg l
 leg_narrow bytes at l w = (subst (λ n. n < 2 ^ 32) (sym w.0) (field_below bytes at 10 32 (omega arith)), subst (λ n. n < 2 ^ 32) (sym w.2) (field_below bytes _ 4 32 (omega arith)))
+
+legs_narrow : (bytes : List ℕ) (ls : List LegFields) → length ls ≡ 4 → LegWritten bytes 12 (leg ls 0) → LegWritten bytes 27 (leg ls 1) → LegWritten bytes 42 (leg ls 2) → LegWritten bytes 57 (leg ls 3) → All NarrowLeg ls
+legs_narrow bytes ls long a b d e = All-from_get_or NarrowLeg ls no_leg (λ i h. each i (omega arith))
+  where
+    each : (i : ℕ) → i < 4 → NarrowLeg (leg ls i)
+    each zero h = leg_narrow bytes 12 (leg ls 0) a
+    each (suc zero) h = leg_narrow bytes 27 (leg ls 1) b
+    each (suc (suc zero)) h = leg_narrow bytes 42 (leg ls 2) d
+    each (suc (suc (suc zero))) h = leg_narrow bytes 57 (leg ls 3) e
+    each (suc (suc (suc (suc i)))) h = absurd (omega arith)
 
 pub narrow : (bytes : List ℕ) (edition : Edition) (m : Message) → Written bytes edition m → Narrow m
 narrow bytes edition (message.Place o) w = (subst (λ n. n < 2 ^ 32) (sym w.1) (field_below bytes 8 8 32 (omega arith)), subst (λ n. n < 2 ^ 32) (sym w.6) (field_below bytes 52 16 32 (omega arith)))
@@ -46,7 +41,7 @@ narrow bytes edition (message.Cancel n) w = subst (λ n. n < 2 ^ 32) (sym w.1) (
 narrow bytes edition (message.Evaluate s) w = subst (λ n. n < 2 ^ 32) (sym w.1) (field_below bytes 8 8 32 (omega arith))
 narrow bytes edition (message.Define d) w = (
   subst (λ n. n < 2 ^ 32) (sym w.1) (field_below bytes 8 4 32 (omega arith)),
-  (w.2, leg_narrow bytes 12 (leg d.legs 0) w.3, leg_narrow bytes 27 (leg d.legs 1) w.4, leg_narrow bytes 42 (leg d.legs 2) w.5, leg_narrow bytes 57 (leg d.legs 3) w.6),
+  (w.2, legs_narrow bytes d.legs w.2 w.3 w.4 w.5 w.6),
 )
 
 -- on other memory every call is refused

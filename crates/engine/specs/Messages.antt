@@ -1,11 +1,10 @@
 -- The numbers of a message that was read fit the arguments of the call that it asks for.
-use Rattle.std.specs.Prelude.{◌≡◌, ◌^◌, ◌<◌, List, length, Ok, Err, Result}
+use Rattle.std.specs.Prelude.{◌≡◌, ◌^◌, ◌<◌, List, length, All, Ok, Err, Result}
 use Rattle.refusals.specs.declared.refusal.Refusal.{Refusal}
 use Rattle.contents.specs.declared.message.LegFields.{LegFields}
 use Rattle.contents.specs.declared.message.PlaceFields.{PlaceFields}
 use Rattle.contents.specs.declared.message.Message.{Message}
 use Rattle.contents.specs.declared.message.Message.TheVariants.{Place, Cancel, Evaluate, Define}
-use Rattle.messages.specs.Writing.{leg}
 use Rattle.rules.specs.declared.answer.Intake.{Intake}
 use Rattle.rules.specs.declared.answer.Intake.TheVariants as intake
 use Rattle.rules.specs.Events.{Answer, defined, placed, evaluated, cancelled, refused}
@@ -14,7 +13,7 @@ abbrev pub NarrowLeg : LegFields → Type 0
 NarrowLeg l = (l.series < 2 ^ 32) × (l.ratio < 2 ^ 32)
 
 abbrev pub NarrowLegs : List LegFields → Type 0
-NarrowLegs ls = (length ls ≡ 4) × NarrowLeg (leg ls 0) × NarrowLeg (leg ls 1) × NarrowLeg (leg ls 2) × NarrowLeg (leg ls 3)
+NarrowLegs ls = (length ls ≡ 4) × All NarrowLeg ls
 
 abbrev pub NarrowOrder : PlaceFields → Type 0
 NarrowOrder o = (o.strategy < 2 ^ 32) × (o.quantity < 2 ^ 32)

@@ -29,7 +29,7 @@ fn order_of(fields: PlaceFields) -> NewOrder
     }
 }
 
-// The leg that the fields of a message say.
+// The leg that the fields of a message say. No `From`: both types are other crates', and the numbers have to fit.
 fn leg_of(fields: LegFields) -> Leg
     requires { NarrowLeg fields }
     ensures { result ≡ leg_said fields }
@@ -49,12 +49,7 @@ fn legs_of(fields: [LegFields; 4]) -> [Leg; 4]
     requires { NarrowLegs fields }
     ensures { result ≡ map leg_said fields }
 {
-    [
-        leg_of(fields[0]),
-        leg_of(fields[1]),
-        leg_of(fields[2]),
-        leg_of(fields[3]),
-    ]
+    fields.map(leg_of)
 }
 
 impl Engine<'_> {
@@ -100,8 +95,7 @@ impl Engine<'_> {
     {
         self.check_ready()?;
         let received = read(message)?;
-        let done = self.act(book, executions, received.message)?;
-        Ok(done)
+        Ok(self.act(book, executions, received.message)?)
     }
 
     // Takes a message in: its call counts like a direct one, and a message that cannot be read changes nothing.

@@ -61,9 +61,9 @@ fn warning_of(heap: Global, message: &Message) -> Result<String, AllocError>
 {
     match *message {
         Message::Place(order) => limit_warning(heap, order.limit),
-        Message::Cancel { .. } | Message::Evaluate { .. } | Message::Define(_) => Ok(
-            String::new(heap),
-        ),
+        Message::Cancel { .. } | Message::Evaluate { .. } | Message::Define(_) => Ok(String::new(
+            heap,
+        )),
     }
 }
 

@@ -12,15 +12,14 @@ pub(crate) struct BitReader<'a> {
 }
 
 impl BitReader<'_> {
-    ghost use Rattle.std.specs.Prelude.{◌+◌, ◌^◌, ◌<◌, ◌≤◌, [], ◌∷◌};
-    ghost use Rattle.messages.specs.Bits.{message_bits, field};
+    ghost use Rattle.std.specs.Prelude.{◌^◌, ◌<◌, [], ◌∷◌};
+    ghost use Rattle.messages.specs.Bits.{field};
     ghost use Rattle.messages.specs.Layout.{up_to, reported_at, unused_bits};
-    ghost use Rattle.messages.specs.Passing.{Passed};
+    ghost use Rattle.messages.specs.Passing.{Passable, Passed};
 
     // The next `width` bits as a number, in one pass over the bytes that they touch.
     pub(crate) fn number(&mut self, width: usize) -> u64
-        requires narrow { width ≤ 48 }
-        requires within { self.old.at + width ≤ message_bits }
+        requires { Passable self.old width }
         ensures value { result ≡ field self.old.bytes.now self.old.at width }
         ensures bound { result < 2 ^ width }
         ensures passed { Passed self.old self.new width [] }
@@ -38,8 +37,7 @@ impl BitReader<'_> {
 
     // The next field; a value above `greatest` is the offence of the bit `answered`, unless an earlier field offended.
     pub(crate) fn part(&mut self, width: usize, greatest: u64, answered: u32) -> u64
-        requires narrow { width ≤ 48 }
-        requires within { self.old.at + width ≤ message_bits }
+        requires { Passable self.old width }
         ensures value { result ≡ field self.old.bytes.now self.old.at width }
         ensures passed { Passed self.old self.new width (reported_at answered self.old.at width greatest ∷ []) }
     {
@@ -52,8 +50,7 @@ impl BitReader<'_> {
 
     // The next field, which answers its own first bit where its value is above `greatest`.
     pub(crate) fn field(&mut self, width: usize, greatest: u64) -> u64
-        requires narrow { width ≤ 48 }
-        requires within { self.old.at + width ≤ message_bits }
+        requires { Passable self.old width }
         ensures value { result ≡ field self.old.bytes.now self.old.at width }
         ensures passed { Passed self.old self.new width (up_to self.old.at width greatest ∷ []) }
     {
@@ -63,8 +60,7 @@ impl BitReader<'_> {
 
     // Unused bits: they are read as one field, and looked at one by one only where some bit is set.
     pub(crate) fn unused_bits(&mut self, width: usize)
-        requires narrow { width ≤ 48 }
-        requires within { self.old.at + width ≤ message_bits }
+        requires { Passable self.old width }
         ensures passed { Passed self.old self.new width (unused_bits self.old.at width) }
     {
         let start = self.at;

@@ -28,6 +28,7 @@ fn limit_of(edition: Edition, raw: u64) -> i64
     }
 }
 
+// Each kind's fields begin at bit 8: three contracts say so, since a type for what is behind the head would be longer.
 impl BitReader<'_> {
     // The fields that placing, cancelling and evaluating share; one that is above its greatest offends.
     fn order_fields(&mut self, greatest: &OrderFields) -> OrderFields

@@ -39,19 +39,19 @@ returns-in_err-received g c =
 pub act-requires : goal.act-requires
 act-requires g c = narrow c.args.message.now c.in_ok-received.received.edition c.in_ok-received.received.message c.in_ok-received.ensures.said.1
 
-pub returns-in_err-done : goal.returns-in_err-done
-returns-in_err-done g c =
-    let p = err_from_is_err_and c.from_residual-in_err-done.result c.from_residual-in_err-done.ensures.1 in
+pub returns-in_err-act : goal.returns-in_err-act
+returns-in_err-act g c =
+    let p = err_from_is_err_and c.from_residual-in_err-act.result c.from_residual-in_err-act.ensures.1 in
     let s = model c.args.self.now in
     let b = g.B.SimpleBook.lots c.args.book.now in
     let k = length c.args.executions.now in
     let out = c.act.new.executions in
-    let answer : answer_intake c.from_residual-in_err-done.result ≡ answer_asked (Err c.in_err-done.field-0.0) = ap answer_intake (p.1 ∙ ap Err p.2) in
+    let answer : answer_intake c.from_residual-in_err-act.result ≡ answer_asked (Err c.in_err-act.field-0.0) = ap answer_intake (p.1 ∙ ap Err p.2) in
     let seen : Answer → Did = λ a. record { answer = a; executions = take (records_told a) out; after = g.B.SimpleBook.lots c.act.new.book; next = model c.act.new.self } in
     record {
-      equation = ap (λ call. did s call b k) (asked_so c.args.message.now c.in_ok-received.received c.in_ok-received.ensures.answer) ∙ c.in_err-done.ensures.equation ∙ ap seen (sym answer);
-      list = c.in_err-done.ensures.list ∙ ap (λ a. written_over (take (records_told a) out) c.args.executions.now) (sym answer);
-      frame = c.in_err-done.ensures.frame;
+      equation = ap (λ call. did s call b k) (asked_so c.args.message.now c.in_ok-received.received c.in_ok-received.ensures.answer) ∙ c.in_err-act.ensures.equation ∙ ap seen (sym answer);
+      list = c.in_err-act.ensures.list ∙ ap (λ a. written_over (take (records_told a) out) c.args.executions.now) (sym answer);
+      frame = c.in_err-act.ensures.frame;
     }
 
 pub returns : goal.returns
@@ -60,10 +60,10 @@ returns g c =
     let b = g.B.SimpleBook.lots c.args.book.now in
     let k = length c.args.executions.now in
     let out = c.act.new.executions in
-    let answer = answered_so c.in_ok-done.done in
+    let answer = answered_so c.in_ok-act.field-0 in
     let seen : Answer → Did = λ a. record { answer = a; executions = take (records_told a) out; after = g.B.SimpleBook.lots c.act.new.book; next = model c.act.new.self } in
     record {
-      equation = ap (λ call. did s call b k) (asked_so c.args.message.now c.in_ok-received.received c.in_ok-received.ensures.answer) ∙ c.in_ok-done.ensures.equation ∙ ap seen answer;
-      list = c.in_ok-done.ensures.list ∙ ap (λ a. written_over (take (records_told a) out) c.args.executions.now) answer;
-      frame = c.in_ok-done.ensures.frame;
+      equation = ap (λ call. did s call b k) (asked_so c.args.message.now c.in_ok-received.received c.in_ok-received.ensures.answer) ∙ c.in_ok-act.ensures.equation ∙ ap seen answer;
+      list = c.in_ok-act.ensures.list ∙ ap (λ a. written_over (take (records_told a) out) c.args.executions.now) answer;
+      frame = c.in_ok-act.ensures.frame;
     }
