@@ -1,5 +1,5 @@
 -- What a message asks of an engine.
-use Rattle.std.proofs.Common.{◌≡◌, ℕ, ◌^◌, ◌<◌, List, [], length, Some, None, Ok, Err, sym, refl, ap, ◌∙◌, subst, arith, zero, suc, All}
+use Rattle.std.proofs.Common.{◌≡◌, ℕ, zero, suc, ◌^◌, ◌<◌, All, List, [], length, Some, None, Ok, Err, sym, refl, ap, ◌∙◌, subst, arith}
 use Rattle.refusals.specs.declared.refusal.Refusal.{Refusal}
 use Rattle.contents.specs.declared.edition.Edition.{Edition}
 use Rattle.contents.specs.declared.fault.ReaderFault.{ReaderFault}
@@ -8,8 +8,8 @@ use Rattle.simple.specs.Lots.{Lots}
 use Rattle.contents.specs.declared.message.LegFields.{LegFields}
 use Rattle.contents.specs.declared.message.Message.{Message}
 use Rattle.contents.specs.declared.message.Message.TheVariants as message
-use Rattle.messages.specs.Writing.{leg, no_leg}
 use Rattle.std.proofs.lemmas.List.Elements.{All-from_get_or}
+use Rattle.messages.specs.Writing.{no_leg, leg}
 use Rattle.messages.specs.Laws.{LegWritten, Written}
 use Rattle.messages.proofs.FieldLaws.{field_below}
 use Rattle.messages.specs.Reading.{read_of}

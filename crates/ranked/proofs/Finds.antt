@@ -1,12 +1,11 @@
 -- What a search over the entries finds.
-use Rattle.std.proofs.Common.{◌≡◌, ℕ, suc, ◌+◌, ◌<◌, Bool, not, eqb, List, [], ◌∷◌, length, get_or, take, Some, None, Option, sym, refl, ap, ◌∙◌, subst, inl, inr, arith, length-take, Bor}
+use Rattle.std.proofs.Common.{◌≡◌, ℕ, suc, ◌+◌, ◌<◌, Bool, not, eqb, List, [], ◌∷◌, length, get_or, take, Some, None, Option, sym, refl, ap, ◌∙◌, subst, inl, inr, arith, length-take}
 use Rattle.std.specs.Prelude.{MatchOption}
 use Rattle.std.specs.List.{slice_get, position_from}
-use Rattle.std.specs.Slice.{IsGetResult}
 use Rattle.std.specs.Option.{option_map, unwrap_or}
 use Rattle.std.proofs.lemmas.List.{get_or-take}
 use Rattle.std.proofs.lemmas.Int.{clamps}
-use Rattle.std.proofs.lemmas.Option.{slice_get-get_or, slice_get_past, slice_get_read}
+use Rattle.std.proofs.lemmas.Option.{slice_get_read}
 use Rattle.std.proofs.lemmas.Bool.{cases_Bool, eqb-true, eqb-false}
 use Rattle.ranked.specs.Ranking.{place_of, place_with, Absent, Standing}
 
@@ -59,8 +58,3 @@ module _ {X : Type 0} (serial : X → ℕ) (n : ℕ) where
 pub nth_front : {X : Type 0} (s : List X) (n i : ℕ) (x : X) → i < n → i < length s → x ≡ get_or s i x → slice_get (take n s) i ≡ Some x
 nth_front s n i x lt within at =
     slice_get_read (take n s) (length (take n s)) i x refl (omega (arith, clamps, length-take n s)) (at ∙ sym (get_or-take n s i x lt))
-
--- what a slice lends at a place is the entry there
-pub item_nth : {X : Type 0} (xs : List X) (i : ℕ) (r : Option (Bor X)) → IsGetResult xs i i r → option_map (λ x. x.now) r ≡ slice_get xs i
-item_nth xs i None h = sym (slice_get_past xs i h.3)
-item_nth xs i (Some x) h = ap Some (h.3.1 x.now) ∙ sym (slice_get-get_or xs i x.now h.3.0)
