@@ -33,6 +33,7 @@ pub fn take_legs<B: SimpleBook>(book: &mut B, legs: &[Leg], buy: bool, quantity:
     ensures lots { B.SimpleBook.lots book.new ≡ legs_taken legs.now buy quantity (B.SimpleBook.lots book.old) }
     ensures frame { B.SimpleBook.frame book.new ≡ B.SimpleBook.frame book.old }
 {
+    // a `for`, as a closure that holds the lent book is no plainer
     for leg in legs {
         take_leg(book, *leg, buy, quantity);
     }
