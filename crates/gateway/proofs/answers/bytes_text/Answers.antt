@@ -1,7 +1,5 @@
 use Rattle.std.proofs.Common.{ℕ, List, ◌++◌, get_or, sym, ap, ◌∙◌}
-use Rattle.std.proofs.lemmas.List.{take_all}
 use Rattle.hex_bytes.specs.Bytes.{hex_of}
-use Rattle.gateway.specs.Texts.{bytes_text}
 use Rattle.gateway.proofs.Shown.{bytes_more}
 use Rattle.gateway.proofs.answers.bytes_text.Goals as goal
 
@@ -11,6 +9,3 @@ loop-i-preserved c =
     let i = c.loop-i.i in
     let gap = c.in_ok-push_str.ensures.bytes ∙ (λ k. c.loop-i.invariant k ++ c.gap_before.ensures k) in
     c.in_ok-push_hex_byte.ensures.written ∙ ap (λ (t : List ℕ). t ++ hex_of (get_or bs i 0)) gap ∙ sym (bytes_more bs i c.loop-i-test.true)
-
-pub returns : goal.returns
-returns c = c.loop-i.invariant ∙ ap bytes_text (take_all _ _ c.loop-i-test.false)

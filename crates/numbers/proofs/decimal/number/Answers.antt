@@ -1,6 +1,6 @@
 use Rattle.std.proofs.Common.{◌^◌, ◌<◌, length, Some, None, arith, true-eqb, false-eqb}
 use Rattle.numbers.specs.Numbers.{NumberBelow}
-use Rattle.numbers.proofs.Digits.{answered, none_read, more, stuck, all_read}
+use Rattle.numbers.proofs.Digits.{answered, stuck, all_read}
 use Rattle.numbers.proofs.decimal.number.Goals as goal
 
 pub returns-then-is_empty : goal.returns-then-is_empty
@@ -8,18 +8,10 @@ returns-then-is_empty c =
     let never : NumberBelow (2 ^ 64) c.args.word.now → ⊥ = λ is. omega (arith, is.some, true-eqb _ 0 c.if-is_empty.ensures) in
     record { answer = answered (2 ^ 64) _ None never; accepts = never }
 
-pub loop-b-init : goal.loop-b-init
-loop-b-init c = none_read (2 ^ 64) _ (omega arith)
-
 pub returns-in_err-n : goal.returns-in_err-n
 returns-in_err-n c =
     let never : NumberBelow (2 ^ 64) c.args.word.now → ⊥ = stuck _ _ _ _ c.loop-b.invariant c.loop-b-test.true c.in_err-n.ensures in
     rw c.from_residual.ensures (record { answer = answered (2 ^ 64) _ None never; accepts = never })
-
-pub loop-b-preserved : goal.loop-b-preserved
-loop-b-preserved c =
-    let told = c.in_ok-n.ensures in
-    rw told.1 (more _ _ _ _ c.loop-b.invariant c.loop-b-test.true told.0.0 told.0.1)
 
 pub returns : goal.returns
 returns c =

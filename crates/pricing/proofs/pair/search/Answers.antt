@@ -17,9 +17,6 @@ cents_of-cents-requires c =
     let legs = c.legs-legs.result.now in
     (leg_told (leg_at legs c.loop-i.i) (sound_at legs c.loop-i.i _ c.legs-legs.ensures.sound c.loop-i-test.true)).some
 
-pub bounds-prices-i : goal.bounds-prices-i
-bounds-prices-i c = let short = few c.legs-legs.result.now c.legs-legs.ensures.sound in omega arith
-
 low_is : (c : After-min-high) → c.max-low.result ≡ lowest c.legs-legs.result.now c.args.sell_limit
 low_is c = rw (c.legs-legs.ensures.value, ← c.net-net_bid.ensures.bid) (grind (arith, to_z-of_z))
 

@@ -1,4 +1,4 @@
-use Rattle.std.proofs.Common.{true, false, set, sym, ap, ◌∙◌}
+use Rattle.std.proofs.Common.{sym, ap, ◌∙◌}
 use Rattle.simple.specs.Take.{Done, after, taken}
 use Rattle.holds.specs.Hold.{layer_lots}
 use Rattle.replay.specs.declared.answer.Answer.TheVariants.{Best as best}
@@ -45,32 +45,4 @@ returns-in-Take g c =
           ∙ sym (ap (layer_leaves m b) call);
       marks = same_marks lots frame h h' same ∙ sym (ap (marks_after m) call);
       frame = same_below lots frame h h' same;
-    }
-
-pub returns-in-Hold : goal.returns-in-Hold
-returns-in-Hold g c =
-    let lots = g.B.SimpleBook.lots in
-    let h = c.args.layer.now in
-    let m = h.marks in
-    let call = c.in-Hold.is in
-    let answer = c.hold.ensures.answer in
-    record {
-      answer = c.done_answer-in-Hold.ensures ∙ ap done_answer answer ∙ sym (ap (layer_answer (layer_lots lots h)) call);
-      lots = ap lots c.hold.ensures.book ∙ sym (ap (layer_leaves m (lots h.book)) call);
-      marks = c.hold.ensures.marks ∙ ap (λ (x : Done). after x (set m c.in-Hold.series true) m) answer ∙ sym (ap (marks_after m) call);
-      frame = ap g.B.SimpleBook.frame c.hold.ensures.book;
-    }
-
-pub returns-in-Release : goal.returns-in-Release
-returns-in-Release g c =
-    let lots = g.B.SimpleBook.lots in
-    let h = c.args.layer.now in
-    let m = h.marks in
-    let call = c.in-Release.is in
-    let answer = c.release.ensures.answer in
-    record {
-      answer = c.done_answer-in-Release.ensures ∙ ap done_answer answer ∙ sym (ap (layer_answer (layer_lots lots h)) call);
-      lots = ap lots c.release.ensures.book ∙ sym (ap (layer_leaves m (lots h.book)) call);
-      marks = c.release.ensures.marks ∙ ap (λ (x : Done). after x (set m c.in-Release.series false) m) answer ∙ sym (ap (marks_after m) call);
-      frame = ap g.B.SimpleBook.frame c.release.ensures.book;
     }

@@ -1,15 +1,12 @@
 -- `run`: the records written, and the steps that are left.
-use Rattle.std.proofs.Common.{refl, ◌∙◌}
+use Rattle.std.proofs.Common.{◌∙◌}
 use Rattle.std.proofs.lemmas.List.{set-get_or}
 use Rattle.ranked.specs.Held.{items}
 use Rattle.strategies.specs.Strategies.{strategy_legs}
 use Rattle.rules.specs.Steps.{trading}
 use Rattle.stepping.specs.Stepping.{told}
-use Rattle.stepping.proofs.Going.{going_none, going_more, going_full, going_all, after_so}
+use Rattle.stepping.proofs.Going.{going_more, going_full, going_all, after_so}
 use Rattle.stepping.proofs.defined.Defined.run.Goals as goal
-
-pub loop-records-init : goal.loop-records-init
-loop-records-init g c = (going_none (strategy_legs c.args.self.now.strategy) c.args.self.now.number c.args.out.now (trading (items c.args.orders.now) (g.B.SimpleBook.lots c.args.book.now)), refl, refl)
 
 pub loop-records-preserved : goal.loop-records-preserved
 loop-records-preserved g c =

@@ -1,16 +1,9 @@
 -- `check`: the first rule that is broken, and that none is exactly where the row is lawful.
 use Rattle.std.proofs.Common.{length, sym, ap, ◌∙◌, rules}
-use Rattle.refusals.specs.declared.reason.Reason.TheVariants.{Series, Ratio}
+use Rattle.refusals.specs.declared.reason.Reason.TheVariants.{Ratio}
 use Rattle.strategies.specs.Legs.{rising_from, ratios_lawful}
-use Rattle.strategies.proofs.Checks.{series_fault, ratio_fault, no_fault, exactly_some, exactly_none}
+use Rattle.strategies.proofs.Checks.{ratio_fault, no_fault, exactly_some, exactly_none}
 use Rattle.strategies.proofs.row.StrategyRow.check.Goals as goal
-
-pub returns-then-not-series_rise : goal.returns-then-not-series_rise
-returns-then-not-series_rise c =
-    let row = c.args.self.now in
-    let same = c.counted-legs.ensures.value in
-    let is = series_fault row (search rules) (search rules) (c.if-not-series_rise.ensures ∙ ap (rising_from 0) same) in
-    record { answer = is; accepted = exactly_some row Series is }
 
 pub returns-then-not-ratios_lawful : goal.returns-then-not-ratios_lawful
 returns-then-not-ratios_lawful c =
