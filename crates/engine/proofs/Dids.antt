@@ -74,9 +74,6 @@ module _ (xs before after : List Execution) (n : ℕ) (list : after ≡ written_
   pub written_first : take n after ≡ xs
   written_first = ap (take n) list ∙ take_at xs (drop (length xs) before) n (sym many)
 
-  pub written_list : after ≡ written_over (take n after) before
-  written_list = list ∙ ap (λ xs. written_over xs before) (sym written_first)
-
 -- ## define
 
 module _ (s : State) (row : StrategyRow) where

@@ -2,7 +2,7 @@
 use Rattle.std.proofs.Common.{◌≡◌, ℕ, ◌+◌, ◌-◌, ◌*◌, ◌<◌, ◌≤◌, true, List, [], ◌∷◌, length, get_or, take, drop, Some, None, Option, sym, refl, ◌∙◌, subst, arith, rules}
 use Rattle.std.specs.Option.{SomeIff}
 use Rattle.std.specs.List.{AllByRecursion}
-use Rattle.std.proofs.ByRecursion.{All-get_or, All-more}
+use Rattle.std.proofs.ByRecursion.{All-get_or}
 use Rattle.std.proofs.lemmas.List.{at_drop_more, at_drop_all, take_all}
 use Rattle.std.proofs.lemmas.Str.Parse.{IsNumeralModel, numerals_by_fold}
 use Rattle.std.proofs.lemmas.Bool.{and_parts, and_from, ltb-true, lt-ltb, leb-true, le-leb, cond_both, both_ways}
@@ -49,15 +49,9 @@ pub record Sofar (limit : ℕ) (w : List ℕ) (i n : ℕ) : Type 0 where
   pub number : value_after n (drop i w) ≡ value w
   pub below : n < limit
 
-pub none_read : (limit : ℕ) (w : List ℕ) → 0 < limit → Sofar limit w 0 0
-none_read limit w h = record { digits = tt; number = refl; below = h }
-
 module _ (limit : ℕ) (w : List ℕ) (i n : ℕ) (h : Sofar limit w i n) where
   at_byte : i < length w → value_after (n * 10 + (get_or w i 0 - 48)) (drop (i + 1) w) ≡ value w
   at_byte l = sym (at_drop_more (value_after n) w i 0 l) ∙ h.number
-
-  pub more : i < length w → Digit (get_or w i 0) → n * 10 + (get_or w i 0 - 48) < limit → Sofar limit w (i + 1) (n * 10 + (get_or w i 0 - 48))
-  more l d fits = record { digits = All-more Digit w i 0 l h.digits d; number = at_byte l; below = fits }
 
   -- a byte that is no digit, or with which the number is too large, is in no number
   pub stuck : i < length w → (Digit (get_or w i 0) × (n * 10 + (get_or w i 0 - 48) < limit) → ⊥) → NumberBelow limit w → ⊥

@@ -2,13 +2,12 @@
 use Rattle.std.proofs.Common.{◌≡◌, ℕ, ◌+◌, ◌<◌, ◌≤◌, true, List, [], ◌∷◌, ◌++◌, length, get_or, take, drop, set, Some, None, Option, sym, refl, ap, ◌∙◌}
 use Rattle.std.proofs.lemmas.List.{drop_more, drop_all, take_more_set, append_assoc, append-nil}
 use Rattle.std.proofs.lemmas.Bool.{and_parts, and_from}
-use Rattle.std.proofs.lemmas.Option.{none-some}
 use Rattle.simple.specs.Lots.{Lots}
 use Rattle.strategies.specs.declared.leg.Leg.{Leg}
 use Rattle.strategies.specs.Legs.{blank}
 use Rattle.pricing.specs.declared.market.LegMarket.{LegMarket}
 use Rattle.pricing.specs.Sound.{leg_sound, legs_sound}
-use Rattle.pricing.specs.Reading.{with_front, leg_market, markets_of, Closed}
+use Rattle.pricing.specs.Reading.{with_front, leg_market, markets_of}
 
 abbrev pub prefixed : {X : Type 0} → List X → Option (List X) → Option (List X)
 prefixed xs None = None
@@ -41,6 +40,3 @@ sound_more i four m l a s = rw (take_more_set four i m l) (sound_push (take i fo
 pub markets_all : (b : Lots) (legs : List Leg) (i : ℕ) (four : List LegMarket) → length legs ≤ i → markets_of b legs ≡ prefixed (take i four) (markets_of b (drop i legs)) → markets_of b legs ≡ Some (take i four)
 unfolding markets_of
 markets_all b legs i four h inv = inv ∙ rw (drop_all i legs h) (ap Some (append-nil (take i four)))
-
-pub closed : (b : Lots) (legs : List Leg) (r : Option (List LegMarket)) → r ≡ markets_of b legs → Closed b legs r
-closed b legs r e none p ok = absurd (none-some ok.0 (sym none ∙ e ∙ ok.1))

@@ -81,9 +81,6 @@ with_tells n (x ∷ os) =
 pub with_some : (n : ℕ) (os : List Order) (o : Order) → order_with n os ≡ Some o → Has os o × (o.number ≡ n)
 with_some n os o e = subst (λ (r : Option Order). MatchOption r (Absent order_number n os) (λ o. Has os o × (o.number ≡ n))) e (with_tells n os)
 
-pub with_none : (n : ℕ) (os : List Order) → order_with n os ≡ None → Absent order_number n os
-with_none n os e = subst (λ (r : Option Order). MatchOption r (Absent order_number n os) (λ o. Has os o × (o.number ≡ n))) e (with_tells n os)
-
 pub left_none : (n : ℕ) (os : List Order) → order_with n os ≡ None → left_of n os ≡ 0
 left_none n os e = ap quantity_in e
 

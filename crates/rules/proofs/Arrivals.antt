@@ -1,5 +1,5 @@
 -- What it does to the orders at rest that one more comes, under a number that none of them has.
-use Rattle.std.proofs.Common.{◌≡◌, ℕ, ◌≤◌, ◌⊎◌, List, [], ◌∷◌, sym, refl, subst, inl, inr}
+use Rattle.std.proofs.Common.{◌≡◌, ℕ, ◌≤◌, ◌⊎◌, List, [], ◌∷◌, sym, refl, inl, inr}
 use Rattle.std.specs.List.{ContainsAt as Has}
 use Rattle.std.proofs.ByRecursion.{all-has, All-weaker, all_has_itself, has_shuffled}
 use Rattle.std.proofs.lemmas.Bool.{cond_both}
@@ -24,10 +24,6 @@ module _ (e : Order) (os : List Order) where
 
   pub inserted_has_old : (o : Order) → Has os o → Has (ranked_insert order_ahead e os) o
   inserted_has_old o h = has_shuffled (e ∷ os) (ranked_insert order_ahead e os) o (insert_keeps order_ahead e os) (has_later e os o h)
-
-  pub inserted_has : (o : Order) → (o ≡ e) ⊎ Has os o → Has (ranked_insert order_ahead e os) o
-  inserted_has o (inl same) = subst (Has (ranked_insert order_ahead e os)) (sym same) inserted_has_new
-  inserted_has o (inr h) = inserted_has_old o h
 
   pub ready_inserted : Ready os → 1 ≤ e.quantity → 1 ≤ e.number → Absent order_number e.number os → Ready (ranked_insert order_ahead e os)
   ready_inserted ready some numbered fresh = record {

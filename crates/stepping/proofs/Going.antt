@@ -26,9 +26,6 @@ module _ (legs : List Leg) (s : ℕ) where
     pub long : length out ≡ length before
     pub few : w ≤ length before
 
-  pub going_none : (before : List Execution) (t : Trading) → Going (steps legs s (length before) t) before before 0 t
-  going_none before t = record { whole = ap (λ n. steps legs s n t) (omega arith); others = refl; long = refl; few = omega arith }
-
   twice : (xs : List Execution) (x : Execution) (f : Stepped) → behind xs (preceded x f) ≡ behind (xs ++ (x ∷ [])) f
   twice xs x f = λ i. record { executions = sym (append_assoc xs (x ∷ []) f.executions) i; left = f.left; settled = f.settled }
 

@@ -48,9 +48,6 @@ exactly_none r all h = (λ _. row_lawful r all h, λ _. refl)
 
 -- what each test says of the rule that is broken first
 module _ (r : StrategyRow) (few : fewest_legs ≤ r.count) (most : r.count ≤ most_legs) where
-  pub series_fault : false ≡ rising_from 0 (row_legs r) → Some Series ≡ row_fault r
-  series_fault falls = let count = count_only r.count few most in rw (count, ← falls)
-
   module _ (rises : true ≡ rising_from 0 (row_legs r)) where
     pub ratio_fault : false ≡ ratios_lawful (row_legs r) → Some Ratio ≡ row_fault r
     ratio_fault unfit = let count = count_only r.count few most in rw (count, ← rises, ← unfit)

@@ -7,11 +7,6 @@ use Rattle.text.specs.Printable.{printable_byte, printable_word, spaced, printab
 use Rattle.text.specs.Words.{separates, words_after, words_of, lent, Word}
 use Rattle.text.proofs.Runs.{ended_some}
 
--- one more byte of a word
-pub shown_more : (base old new w : List ℕ) (i : ℕ) → i < length w → old ≡ base ++ printable_word (take i w) → new ≡ old ++ printable_byte (get_or w i 0) ∷ [] → new ≡ base ++ printable_word (take (i + 1) w)
-shown_more base old new w i l o n =
-    n ∙ ap (λ bs. bs ++ printable_byte (get_or w i 0) ∷ []) o ∙ append_assoc base (printable_word (take i w)) (printable_byte (get_or w i 0) ∷ []) ∙ ap (λ bs. base ++ bs) (sym (map_more printable_byte w i 0 l))
-
 pub shown_none : printable_line [] ≡ []
 unfolding printable_line
 shown_none = refl
