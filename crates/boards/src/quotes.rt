@@ -10,7 +10,8 @@ use crate::quote::{Quote, Quotes};
 use simple::{Best, Lot, Side};
 
 impl Quote {
-    // The quote that a lot makes, or none where it has no size.
+    // The quote that a lot makes, or none where it has no size. Its bounds stand in three contracts: size 0 is within them, and is
+    // no quote, so the type of a quote cannot hold them.
     fn of(lot: Lot) -> Option<Quote>
         requires { (1 ≤ lot.price) × (lot.price ≤ highest_price) × (lot.size ≤ lot_limit) }
         ensures { option_map (quote_lot lot.customer) result ≡ lot_quoted lot }

@@ -36,6 +36,9 @@ fn left_of(orders: &RankedList<Order>, number: u32) -> u32
     order_with(orders, number).map_or(0, |order| order.quantity)
 }
 
+// The orders and the book come as two parameters, here and below: the engine owns the one, its caller lends the other. That the
+// book's frame stays is each function's to say, since the book is the caller's.
+
 // At rest when no step is possible: none was left, or none is left now.
 fn outcome_of<B: SimpleBook>(
     orders: &RankedList<Order>,

@@ -2,7 +2,7 @@
 ghost use Rattle.std.specs.Prelude.{◌≡◌, ◌≤◌};
 ghost use Rattle.simple.specs.Limits.{last_series};
 
-use crate::lot::lot;
+use crate::fillers::lot;
 use boards::QuoteBoard;
 use holds::HoldLayer;
 use simple::{Best, Side, SimpleBook};

@@ -32,30 +32,10 @@ pub fn day(
 #[cfg(test)]
 mod tests {
     use super::*;
-    use crate::lot::lot;
+    use crate::fillers::{NO_LOT, NO_ORDER, lot};
     use contents::{OrderSide, TimeInForce};
-    use lots::PostedLot;
-    use simple::{Lot, Side};
+    use simple::Side;
     use std::test::Fail;
-
-    const NO_LOT: PostedLot = PostedLot {
-        series: 0,
-        side: Side::Bid,
-        lot: Lot {
-            price: 0,
-            size: 0,
-            customer: false,
-        },
-        number: 0,
-    };
-
-    const NO_ORDER: Order = Order {
-        strategy: 0,
-        buy: false,
-        limit: Some(0),
-        number: 0,
-        quantity: 0,
-    };
 
     const NO_EXECUTION: Execution = Execution {
         strategy: 0,

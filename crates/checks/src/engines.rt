@@ -1,5 +1,5 @@
 // The engine where no program reaches: other memory, full tables, spent numbers, short and long lists.
-use crate::lot::lot;
+use crate::fillers::{NO_LOT, NO_ORDER, lot};
 use boards::QuoteBoard;
 use contents::{OrderSide, TimeInForce};
 use depth::DepthBook;
@@ -7,29 +7,10 @@ use engine::Engine;
 use lots::PostedLot;
 use refusals::{Reason, Refusal, Station};
 use rules::{Evaluated, Execution, Intake, IntakeFault, NewOrder, Order, Outcome, Placed};
-use simple::{Lot, Side};
+use simple::Side;
 use std::process::Abort;
 use std::test::Fail;
 use strategies::Leg;
-
-const NO_ORDER: Order = Order {
-    strategy: 0,
-    buy: false,
-    limit: Some(0),
-    number: 0,
-    quantity: 0,
-};
-
-const NO_LOT: PostedLot = PostedLot {
-    series: 0,
-    side: Side::Bid,
-    lot: Lot {
-        price: 0,
-        size: 0,
-        customer: false,
-    },
-    number: 0,
-};
 
 // What a list holds before a call, to tell what the call left there.
 const MARK: Execution = Execution {

@@ -8,7 +8,7 @@ mod clients;
 #[cfg(test)]
 mod engines;
 #[cfg(test)]
-mod lot;
+mod fillers;
 #[cfg(test)]
 mod messages_read;
 #[cfg(test)]

@@ -41,21 +41,9 @@ pub(crate) fn take_through_two<B: SimpleBook>(
 #[cfg(test)]
 mod tests {
     use super::*;
-    use crate::lot::lot;
+    use crate::fillers::{NO_LOT, lot};
     use depth::DepthBook;
-    use lots::PostedLot;
-    use simple::{Best, Lot};
-
-    const NO_LOT: PostedLot = PostedLot {
-        series: 0,
-        side: Side::Bid,
-        lot: Lot {
-            price: 0,
-            size: 0,
-            customer: false,
-        },
-        number: 0,
-    };
+    use simple::Best;
 
     #[test]
     fn a_depth_book_is_taken_from_through_two_layers(rt: HostRuntime) {

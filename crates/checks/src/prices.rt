@@ -1,5 +1,5 @@
 // Prices of strategies, on examples.
-use crate::lot::lot;
+use crate::fillers::lot;
 use boards::QuoteBoard;
 use pricing::{NetPrice, StrategyMarket, displayed_price, market_of, net_market};
 use refusals::Reason;

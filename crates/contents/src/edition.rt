@@ -22,7 +22,7 @@ impl From<Edition> for u64 {
     }
 }
 
-// The edition that has a code.
+// The edition that has a code. One impl for each enum with codes: they share a shape, and no code.
 impl TryFrom<u64> for Edition {
     type Error = Reason;
 

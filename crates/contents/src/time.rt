@@ -22,7 +22,7 @@ impl From<TimeInForce> for u64 {
     }
 }
 
-// The time in force that has a code.
+// The time in force that has a code. One impl for each enum with codes: they share a shape, and no code.
 impl TryFrom<u64> for TimeInForce {
     type Error = Reason;
 

@@ -15,7 +15,7 @@ pub(crate) enum Limit {
     At(i64),
 }
 
-// The side that a word names.
+// The side that a word names. A `match` for each enum: which word names which value is all that it says.
 fn side_named(word: &[u8]) -> Option<OrderSide>
     ensures { result ≡ side_in word.now }
 {

@@ -26,6 +26,7 @@ fn no_marks() -> Marks
     [false; SERIES_COUNT]
 }
 
+// Each change of a mark says that the book stays: a fact of before and after, which no type can hold.
 impl<B: SimpleBook> HoldLayer<B> {
     // The book with no series on hold.
     pub fn new(book: B) -> HoldLayer<B>

@@ -19,6 +19,7 @@ pub struct RankedList<'a, E> {
     len: usize,
 }
 
+// Each change says that the room stays: a fact of before and after, which no type can hold.
 impl<'a, E: Ranked> RankedList<'a, E> {
     /// A list with no entry, whatever the slots hold.
     pub fn open(slots: &'a mut [E]) -> Self

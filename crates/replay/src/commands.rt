@@ -15,7 +15,7 @@ fn small_number(word: &[u8]) -> Option<u32>
     u32::try_from(number(word)?).ok()
 }
 
-// The side that a word names.
+// The side that a word names. A `match` for each enum: which word names which value is all that it says.
 fn side_named(word: &[u8]) -> Option<Side>
     ensures { result ≡ side_in word.now }
 {

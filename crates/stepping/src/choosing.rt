@@ -64,6 +64,8 @@ fn step_with(market: &StrategyMarket, buy: Option<Order>, sell: Option<Order>) -
     pair_of(market, buy, sell).or_else(|| older(leg_of(market, buy), leg_of(market, sell)))
 }
 
+// That the book's lists and frame stay is said by each function, here and in what stands above: it is the caller's book, so no
+// type of this crate can hold that.
 impl Defined {
     // The next step; nothing while the strategy is not free.
     pub fn next_step<B: SimpleBook>(&self, orders: &RankedList<Order>, book: &mut B) -> Option<Step>

@@ -6,7 +6,7 @@ ghost use Rattle.rules.specs.Orders.{best_order, reduced, dropped, order_with};
 use ranked::RankedList;
 use rules::Order;
 
-// The best buy or sell of a strategy: the first in rank.
+// The best buy or sell of a strategy: the first in rank. A walk from the front: no type says that the list is in rank.
 pub fn best_order(orders: &RankedList<Order>, strategy: u32, buy: bool) -> Option<Order>
     ensures { result ≡ best_order strategy buy (items orders.now) }
 {
@@ -24,6 +24,8 @@ pub fn order_with(orders: &RankedList<Order>, number: u32) -> Option<Order>
     let place = orders.find(number)?;
     orders.get(place)
 }
+
+// Each change says that the list keeps its room: a fact of before and after, which no type can hold.
 
 // Takes a quantity off the order of a number; with nothing left it rests no more.
 pub fn reduce(orders: &mut RankedList<Order>, number: u32, quantity: u32)

@@ -16,6 +16,7 @@ use ranked::RankedList;
 use refusals::{Reason, Refusal, Station};
 use simple::{Best, Lot, Side, SimpleBook, allow_take};
 
+// Each removal says that the counts stay: a fact of before and after, which no type can hold.
 impl<'a> DepthBook<'a> {
     /// A book with no lot, however the memory was filled.
     pub fn open(memory: &'a mut [PostedLot]) -> Self
