@@ -1,4 +1,4 @@
-// Which lines are passed over, and the words of a line by their places.
+// Which lines are passed over.
 
 #![tactic(auto)]
 

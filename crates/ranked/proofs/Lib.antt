@@ -6,3 +6,4 @@ pub mod Inserts
 pub mod Removals
 pub mod Replacements
 pub mod Lexes
+pub mod Keys

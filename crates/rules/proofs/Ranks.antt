@@ -1,19 +1,9 @@
--- The rank of an order, by the comparison of tuples.
-use Rattle.std.proofs.Common.{◌≡◌, ℕ, Bool, true, false, cond, not, ltb, Option, Some, None, Ordering, Less, Equal, Greater, ℤ, pos, ◌-ℤ◌, refl, ap, ◌∙◌, arith}
-use Rattle.std.specs.Ordering.{is_some_and, is_lt, nat_cmp, int_cmp, bool_cmp, partial_ordering_then}
+-- The keys of an order, in turn.
+use Rattle.std.proofs.Common.{◌≡◌, ℕ, Bool, true, false, cond, not, ltb, Option, Some, Ordering, ℤ, pos, ◌-ℤ◌, refl, ap, ◌∙◌, arith}
+use Rattle.std.specs.Ordering.{nat_cmp, int_cmp, bool_cmp, partial_ordering_then}
 use Rattle.std.proofs.lemmas.Int.{ints}
-use Rattle.std.proofs.lemmas.Bool.Decides.{nat_tests}
 use Rattle.ranked.specs.Lex.{lex, first_if, better}
-
-abbrev lower : Option Ordering → Bool
-lower o = is_some_and is_lt o
-
--- one key, and what comes after it
-by_nat : (a b : ℕ) (p : Option Ordering) → lower (partial_ordering_then (Some (nat_cmp a b)) p) ≡ lex (pos a) (pos b) (lower p)
-by_nat a b p = grind (arith, nat_tests, ints)
-
-by_int : (a b : ℤ) (p : Option Ordering) → lower (partial_ordering_then (Some (int_cmp a b)) p) ≡ lex a b (lower p)
-by_int a b p = grind (arith, ints)
+use Rattle.ranked.proofs.Keys.{lower, by_nat, by_int, by_last, then_along}
 
 -- of buys the higher limit is the lesser key
 abbrev turned : Bool → ℤ → ℤ
@@ -26,16 +16,6 @@ by_side true false l m p = refl
 by_side false true l m p = refl
 by_side false false l m p = by_int l m p
 
-last : (a b : ℕ) → lower (Some (nat_cmp a b)) ≡ ltb a b
-last a b = grind (arith, nat_tests)
-
--- all keys, as tuples compare them
-then_along : (a b c : Option Ordering) → partial_ordering_then (partial_ordering_then a b) c ≡ partial_ordering_then a (partial_ordering_then b c)
-then_along None b c = refl
-then_along (Some Less) b c = refl
-then_along (Some Equal) b c = refl
-then_along (Some Greater) b c = refl
-
 pub ahead_so :
     (a b : ℕ) (s t : Bool) (l m : ℤ) (n k : ℕ)
     → lower (partial_ordering_then (partial_ordering_then (partial_ordering_then (Some (nat_cmp a b)) (Some (bool_cmp (not s) (not t)))) (Some (int_cmp (turned s l) (turned t m)))) (Some (nat_cmp n k)))
@@ -47,4 +27,4 @@ ahead_so a b s t l m n k =
     let w = Some (nat_cmp n k) in
     ap lower (then_along (partial_ordering_then x y) z w ∙ then_along x y (partial_ordering_then z w))
     ∙ by_nat a b (partial_ordering_then y (partial_ordering_then z w))
-    ∙ ap (λ next. lex (pos a) (pos b) next) (by_side s t l m w ∙ ap (λ next. lex (first_if s) (first_if t) (lex (better s l) (better t m) next)) (last n k))
+    ∙ ap (λ next. lex (pos a) (pos b) next) (by_side s t l m w ∙ ap (λ next. lex (first_if s) (first_if t) (lex (better s l) (better t m) next)) (by_last n k))
