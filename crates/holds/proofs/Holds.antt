@@ -1,5 +1,5 @@
 -- What a hold layer shows and hides.
-use Rattle.std.proofs.Common.{◌≡◌, ℕ, true, false, cond, ◌&&◌, ◌||◌, eqb, ltb, leb, List, [], get_or, Ok, Err, refl, ap, ◌∙◌, arith}
+use Rattle.std.proofs.Common.{◌≡◌, ℕ, true, false, cond, ◌&&◌, ◌||◌, eqb, ltb, leb, List, [], get_or, Ok, Err, sym, refl, ap, ◌∙◌, arith}
 use Rattle.std.proofs.lemmas.Bool.{and_parts, leb-true, le-ltb, cond-false, cond-true}
 use Rattle.std.proofs.lemmas.List.{get_or-replicate}
 use Rattle.std.proofs.lemmas.Bool.Decides.{nat_tests}
@@ -7,12 +7,13 @@ use Rattle.refusals.specs.declared.reason.Reason.TheVariants.{NoSeries, TooMany}
 use Rattle.refusals.specs.declared.station.Station.TheVariants.{Take}
 use Rattle.refusals.specs.Refusals.{refused_at}
 use Rattle.simple.specs.declared.lot.Lot.{Lot}
+use Rattle.holds.specs.declared.layer.HoldLayer.{HoldLayer}
 use Rattle.simple.specs.declared.lot.Side.{Side}
 use Rattle.simple.specs.Limits.{last_series, series_count}
 use Rattle.simple.specs.Lots.{Lots}
 use Rattle.simple.specs.Best.{best_of, best_size}
 use Rattle.simple.specs.Take.{Done, take_answer}
-use Rattle.holds.specs.Hold.{Marks, no_marks, on_hold, shown}
+use Rattle.holds.specs.Hold.{Marks, no_marks, on_hold, shown, hidden, HoldFrame, layer_frame}
 
 module _ (m : Marks) (b : Lots) (s : ℕ) (d : Side) (held : on_hold m s ≡ true) where
   pub held_empty : shown m b s d ≡ []
@@ -36,3 +37,12 @@ none_held s =
       | true ↦ λ e. let low = leb-true s last_series e in get_or-replicate series_count s false false (omega arith)
       | false ↦ λ _. refl
     ] refl
+
+-- where two layers have one frame, the books below have the same lots of a series on hold
+module _ {B F : Type 0} (lots : B → Lots) (frame : B → F) (before h : HoldLayer B) where
+  pub undisturbed : layer_frame lots frame h ≡ layer_frame lots frame before → (s : ℕ) (d : Side) → on_hold before.marks s ≡ true → lots h.book s d ≡ lots before.book s d
+  undisturbed same s d held =
+      let marks : h.marks ≡ before.marks = ap (λ (f : HoldFrame F). f.marks) same in
+      let here : on_hold h.marks s ≡ true = ap (λ m. on_hold m s) marks ∙ held in
+      let kept : hidden h.marks (lots h.book) s d ≡ hidden before.marks (lots before.book) s d = ap (λ (f : HoldFrame F). f.hidden s d) same in
+      sym (cond-true (on_hold h.marks s) (lots h.book s d) [] here) ∙ kept ∙ cond-true (on_hold before.marks s) (lots before.book s d) [] held
