@@ -8,7 +8,7 @@ use contents::{DefineFields, LegFields, LegSide, Message, OrderSide, PlaceFields
 use numbers::{number, signed_number};
 use text::words::split_once;
 
-// The limit of an order, which a market order has not.
+// The limit of an order, which a market order has not. No Option: a word that names neither would be a None around it.
 #[derive(Clone, Copy)]
 pub(crate) enum Limit {
     Market,
