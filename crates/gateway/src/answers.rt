@@ -99,7 +99,7 @@ fn writing(heap: Global, message: &Message) -> Result<String, AllocError>
 fn bytes_in(heap: Global, words: &[&[u8]]) -> Result<Option<Vec<u8>>, AllocError>
     ensures { IfOk result (λ o. option_map vec_items o ≡ bytes_in (lent words.now)) }
 {
-    // a loop: no plainer as a try_collect, which would have to carry two failures, no byte and no memory
+    // a loop: the library's contract does not say what a collect into an Option gives
     let mut bytes = Vec::new(heap);
     for word in words {
         let Some(byte) = hex_byte(word) else {

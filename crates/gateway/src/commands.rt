@@ -135,6 +135,7 @@ fn define_words(words: &[&[u8]]) -> Option<Message>
     if words.len() > 4 {
         return None;
     }
+    // four calls: no plainer with `array::try_from_fn`, which takes a Result, where a leg is an Option
     let legs = [
         leg_word(words, 0)?,
         leg_word(words, 1)?,
