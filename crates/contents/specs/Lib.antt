@@ -1,4 +1,5 @@
 pub mod Editions
 pub mod Faults
+pub mod Legs
 pub mod Sides
 pub mod Times

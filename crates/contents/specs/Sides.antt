@@ -1,5 +1,5 @@
--- The codes that stand for sides, each said once.
-use Rattle.std.specs.Prelude.{ℕ, cond, ◌==◌}
+-- The codes that stand for sides, each said once, and what is printed of sides.
+use Rattle.std.specs.Prelude.{ℕ, cond, ◌==◌, List, codes}
 use Rattle.contents.specs.declared.sides.OrderSide.{OrderSide}
 use Rattle.contents.specs.declared.sides.OrderSide.TheVariants.{Buy, Sell}
 use Rattle.contents.specs.declared.sides.LegSide.{LegSide}
@@ -19,3 +19,11 @@ order_side_coded n = cond (n == order_side_code Buy) Buy Sell
 
 abbrev pub leg_side_coded : ℕ → LegSide
 leg_side_coded n = cond (n == leg_side_code Bought) Bought Sold
+
+abbrev pub side_text : OrderSide → List ℕ
+side_text Buy = codes "buy"
+side_text Sell = codes "sell"
+
+abbrev pub sign_text : LegSide → List ℕ
+sign_text Bought = codes "+"
+sign_text Sold = codes "-"

@@ -1,7 +1,10 @@
 // What a message says.
+ghost use Rattle.std.specs.Prelude.{Some};
+ghost use Rattle.contents.specs.Legs.{leg_text};
 
 use crate::edition::Edition;
 use crate::sides::{LegSide, OrderSide};
+use std::fmt;
 
 // An order, in numbers wider than their fields, so that one that does not fit can be refused.
 #[derive(Clone, Copy)]
@@ -45,4 +48,18 @@ pub enum Message {
 pub struct Received {
     pub edition: Edition,
     pub message: Message,
+}
+
+// What programs print of a leg: its series, the sign of its side and its ratio.
+impl fmt::Display for LegFields {
+    ghost output = { λ leg. Some (leg_text leg) };
+
+    fn fmt<W: fmt::Write>(&self, f: &mut fmt::Formatter<W>) -> fmt::Result {
+        let LegFields {
+            series,
+            side,
+            ratio,
+        } = *self;
+        write!(f, "{series}:{side}{ratio}")
+    }
 }

@@ -1,5 +1,5 @@
 -- What is printed of each line, and what is counted.
-use Rattle.std.specs.Prelude.{ℕ, ◌+◌, ◌-◌, ◌^◌, min, Bool, false, cond, List, [], ◌++◌, length, replicate, ℤ, Some, None, Ok, Err, codes, decimal, Option, Result, nat_lt}
+use Rattle.std.specs.Prelude.{ℕ, ◌+◌, ◌-◌, ◌^◌, min, Bool, cond, List, [], ◌++◌, length, replicate, ℤ, Some, None, Ok, Err, codes, decimal, Option, Result, nat_lt, is_some}
 use Rattle.std.specs.Str.{bytes_eq}
 use Rattle.contents.specs.declared.fault.ReaderFault.{ReaderFault}
 use Rattle.contents.specs.declared.fault.WriterFault.{WriterFault}
@@ -22,19 +22,24 @@ use Rattle.lines.specs.Words.{word}
 use Rattle.gateway.specs.Commands.{bytes_in, message_in}
 use Rattle.gateway.specs.Texts.{message_text, is_beyond, warning_text, bytes_text}
 
--- a warning follows a message that places an order at a limit beyond what the engine takes
-abbrev pub limit_warning : ℤ → List ℕ
-limit_warning limit = cond (is_beyond limit) (newline ++ warning_text limit) []
+-- a message that places an order at a limit beyond what the engine takes is warned of
+abbrev pub limit_warning : ℤ → Option (List ℕ)
+limit_warning limit = cond (is_beyond limit) (Some (warning_text limit)) None
 
-abbrev pub warning_of : Message → List ℕ
+abbrev pub warning_of : Message → Option (List ℕ)
 warning_of (Place o) = limit_warning o.limit
-warning_of (Cancel n) = []
-warning_of (Evaluate s) = []
-warning_of (Define d) = []
+warning_of (Cancel n) = None
+warning_of (Evaluate s) = None
+warning_of (Define d) = None
+
+-- the warning follows in a line of its own
+abbrev pub below : Option (List ℕ) → List ℕ
+below None = []
+below (Some warning) = newline ++ warning
 
 -- what is printed of bytes that were read
 abbrev pub reading_text : Result Received ReaderFault → List ℕ
-reading_text (Ok x) = message_text (edition_code x.edition) x.message ++ warning_of x.message
+reading_text (Ok x) = message_text (edition_code x.edition) x.message ++ below (warning_of x.message)
 reading_text (Err f) = refusal_text (reader_refusal f)
 
 -- what is printed of a message that was written into 14 bytes of zeros
@@ -46,14 +51,8 @@ writing_text (Ok x) bytes = bytes_text bytes
 writing_text (Err f) bytes = refusal_text writer_refusal
 
 -- what is counted of a line
-abbrev pub is_warned : Message → Bool
-is_warned (Place o) = is_beyond o.limit
-is_warned (Cancel n) = false
-is_warned (Evaluate s) = false
-is_warned (Define d) = false
-
 abbrev pub reading_outcome : Result Received ReaderFault → Outcome
-reading_outcome (Ok x) = Read (is_warned x.message)
+reading_outcome (Ok x) = Read (is_some (warning_of x.message))
 reading_outcome (Err f) = Refused
 
 -- the bytes of a line: at most 64, each a word of two hexadecimal digits

@@ -1,21 +1,14 @@
 -- What is printed of a message that was read or written.
 use Rattle.std.specs.Prelude.{ℕ, ◌+◌, ◌^◌, Bool, true, false, cond, List, [], ◌∷◌, ◌++◌, ℤ, pos, ◌-ℤ◌, neg_ℤ, codes, decimal, ◌==◌, int_le, int_lt}
 use Rattle.std.specs.Fmt.{signed_decimal}
-use Rattle.contents.specs.declared.sides.LegSide.{LegSide}
-use Rattle.contents.specs.declared.sides.LegSide.TheVariants.{Bought, Sold}
-use Rattle.contents.specs.declared.sides.OrderSide.{OrderSide}
-use Rattle.contents.specs.declared.sides.OrderSide.TheVariants.{Buy, Sell}
 use Rattle.contents.specs.declared.time.TimeInForce.TheVariants.{Day}
-use Rattle.contents.specs.declared.message.LegFields.{LegFields}
 use Rattle.contents.specs.declared.message.Message.{Message}
 use Rattle.contents.specs.declared.message.Message.TheVariants.{Place, Cancel, Evaluate, Define}
+use Rattle.contents.specs.Legs.{leg_text}
+use Rattle.contents.specs.Sides.{side_text}
 use Rattle.contents.specs.Times.{time_code}
 use Rattle.messages.specs.Writing.{leg}
 use Rattle.hex_bytes.specs.Bytes.{hex_of}
-
-abbrev pub side_text : OrderSide → List ℕ
-side_text Buy = codes "buy"
-side_text Sell = codes "sell"
 
 abbrev pub time_text : ℕ → List ℕ
 time_text code = cond (code == time_code Day) (codes "day") (codes "ioc")
@@ -27,14 +20,6 @@ is_zero limit = cond (int_le limit (pos 0)) (int_le (pos 0) limit) false
 abbrev pub limit_text : Bool → ℤ → List ℕ
 limit_text true limit = cond (is_zero limit) (codes "market") (codes "market limit " ++ signed_decimal limit)
 limit_text false limit = codes "limit " ++ signed_decimal limit
-
--- a leg by its series, the sign of its side and its ratio
-abbrev pub sign_text : LegSide → List ℕ
-sign_text Bought = codes "+"
-sign_text Sold = codes "-"
-
-abbrev pub leg_text : LegFields → List ℕ
-leg_text l = decimal l.series ++ (codes ":" ++ (sign_text l.side ++ decimal l.ratio))
 
 abbrev pub message_text : ℕ → Message → List ℕ
 message_text e (Place o) =

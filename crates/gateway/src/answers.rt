@@ -6,7 +6,7 @@ ghost use Rattle.messages.specs.Writing.{write_answer, written};
 ghost use Rattle.text.specs.Words.{lent};
 ghost use Rattle.gateway.specs.Commands.{bytes_in, message_in};
 ghost use Rattle.gateway.specs.Texts.{gap_before, bytes_text};
-ghost use Rattle.gateway.specs.Answers.{warning_of, is_warned, reading_text, reading_outcome, writing_text, room, line_bytes, complaint_of, other_reply, other_outcome, reply, outcome, line_text};
+ghost use Rattle.gateway.specs.Answers.{warning_of, reading_text, reading_outcome, writing_text, room, line_bytes, complaint_of, other_reply, other_outcome, reply, outcome, line_text};
 
 use crate::commands::message_in;
 use crate::tally::{Complaint, Outcome};
@@ -25,23 +25,15 @@ pub(crate) struct Reply {
     pub(crate) outcome: Outcome,
 }
 
-// Whether a message is warned of.
-fn is_warned(message: &Message) -> bool
-    ensures { result ≡ is_warned message.now }
-{
-    matches!(message, Message::Place(order) if is_beyond(order.limit))
-}
-
-// The warning below a message, if it is warned of.
-fn warning_of(heap: Global, message: &Message) -> Result<String, AllocError>
-    ensures { IfOk result (λ t. string_bytes t ≡ warning_of message.now) }
+// The warning of a message, if it is warned of.
+fn warning_of(heap: Global, message: &Message) -> Result<Option<String>, AllocError>
+    ensures { IfOk result (λ o. option_map string_bytes o ≡ warning_of message.now) }
 {
     match message {
         Message::Place(order) if is_beyond(order.limit) => {
-            let warning = warning_text(heap, order.limit)?;
-            format!(in heap; "\n{warning}")
+            Ok(Some(warning_text(heap, order.limit)?))
         }
-        _ => Ok(String::new(heap)),
+        _ => Ok(None),
     }
 }
 
@@ -53,13 +45,14 @@ fn reading(heap: Global, bytes: &[u8]) -> Result<Reply, AllocError>
         Ok(received) => {
             let said = message_text(heap, &received)?;
             let warning = warning_of(heap, &received.message)?;
-            let text = format!(in heap; "{said}{warning}")?;
-            Ok(Reply {
-                text,
-                outcome: Outcome::Read {
-                    warned: is_warned(&received.message),
-                },
-            })
+            let outcome = Outcome::Read {
+                warned: warning.is_some(),
+            };
+            let text = match warning {
+                Some(warning) => format!(in heap; "{said}\n{warning}")?,
+                None => said,
+            };
+            Ok(Reply { text, outcome })
         }
         Err(fault) => {
             let text = refusal_text(heap, &fault.into())?;
@@ -106,7 +99,7 @@ fn writing(heap: Global, message: &Message) -> Result<String, AllocError>
 fn bytes_in(heap: Global, words: &[&[u8]]) -> Result<Option<Vec<u8>>, AllocError>
     ensures { IfOk result (λ o. option_map vec_items o ≡ bytes_in (lent words.now)) }
 {
-    // a loop: no plainer as a try_collect, which would have to carry two failures, no byte and no memory
+    // a loop: the library's contract does not say what a collect into an Option gives
     let mut bytes = Vec::new(heap);
     for word in words {
         let Some(byte) = hex_byte(word) else {

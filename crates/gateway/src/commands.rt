@@ -8,7 +8,7 @@ use contents::{DefineFields, LegFields, LegSide, Message, OrderSide, PlaceFields
 use numbers::{number, signed_number};
 use text::words::split_once;
 
-// The limit of an order, which a market order has not.
+// The limit of an order, which a market order has not. No Option: a word that names neither would be a None around it.
 #[derive(Clone, Copy)]
 pub(crate) enum Limit {
     Market,
@@ -135,6 +135,7 @@ fn define_words(words: &[&[u8]]) -> Option<Message>
     if words.len() > 4 {
         return None;
     }
+    // four calls: no plainer with `array::try_from_fn`, which takes a Result, where a leg is an Option
     let legs = [
         leg_word(words, 0)?,
         leg_word(words, 1)?,

@@ -17,6 +17,7 @@ use text::words::words;
 fn main(rt: HostRuntime) -> anyhow::Result<()> {
     let heap = rt.alloc();
     let mut tally = Tally::new();
+    // counted by hand, up to the greatest number: no clause bounds how many lines there are
     let mut number: u64 = 0;
     for line in BufReader::new(heap, rt.stdin())?.split(heap, b'\n') {
         let line = line?;

@@ -1,20 +1,10 @@
 // The text of what was read, written or refused.
 ghost use Rattle.std.specs.Prelude.{◌≡◌, IfOk, string_bytes};
 ghost use Rattle.contents.specs.Editions.{edition_code};
-ghost use Rattle.gateway.specs.Texts.{side_text, time_text, limit_text, sign_text, leg_text, message_text, is_beyond, reread, warning_text};
+ghost use Rattle.gateway.specs.Texts.{time_text, limit_text, message_text, is_beyond, reread, warning_text};
 
-use contents::{LegFields, LegSide, Message, OrderSide, Received, TimeInForce};
+use contents::{Message, Received, TimeInForce};
 use std::alloc::{AllocError, Global};
-
-// A name and no Display, here and below: the types are another crate's, and a wrapper for each would be longer.
-fn side_text(side: OrderSide) -> &'static str
-    ensures { result.now ≡ side_text side }
-{
-    match side {
-        OrderSide::Buy => "buy",
-        OrderSide::Sell => "sell",
-    }
-}
 
 fn time_text(code: u64) -> &'static str
     ensures { result.now ≡ time_text code }
@@ -37,27 +27,6 @@ fn limit_text(heap: Global, market: bool, limit: i64) -> Result<String, AllocErr
     }
 }
 
-fn sign_text(side: LegSide) -> &'static str
-    ensures { result.now ≡ sign_text side }
-{
-    match side {
-        LegSide::Bought => "+",
-        LegSide::Sold => "-",
-    }
-}
-
-fn leg_text(heap: Global, leg: &LegFields) -> Result<String, AllocError>
-    ensures { IfOk result (λ t. string_bytes t ≡ leg_text leg.now) }
-{
-    let LegFields {
-        series,
-        side,
-        ratio,
-    } = *leg;
-    let sign = sign_text(side);
-    format!(in heap; "{series}:{sign}{ratio}")
-}
-
 // What a message that was read says under its edition. A definition shows all four legs, counted or not.
 pub(crate) fn message_text(heap: Global, received: &Received) -> Result<String, AllocError>
     ensures { IfOk result (λ t. string_bytes t ≡ message_text (edition_code received.now.edition) received.now.message) }
@@ -66,7 +35,7 @@ pub(crate) fn message_text(heap: Global, received: &Received) -> Result<String, 
     match received.message {
         Message::Place(order) => {
             let strategy = order.strategy;
-            let side = side_text(order.side);
+            let side = order.side;
             let limit = limit_text(heap, order.market, order.limit)?;
             let time = time_text(order.time_in_force);
             let quantity = order.quantity;
@@ -80,11 +49,7 @@ pub(crate) fn message_text(heap: Global, received: &Received) -> Result<String, 
         }
         Message::Define(row) => {
             let count = row.count;
-            // four names: no plainer joined in a loop, as one format has a hole for each
-            let first = leg_text(heap, &row.legs[0])?;
-            let second = leg_text(heap, &row.legs[1])?;
-            let third = leg_text(heap, &row.legs[2])?;
-            let fourth = leg_text(heap, &row.legs[3])?;
+            let [first, second, third, fourth] = row.legs;
             format!(in heap;
                 "define edition {edition} count {count} legs {first} {second} {third} {fourth}"
             )

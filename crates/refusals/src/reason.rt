@@ -2,55 +2,55 @@
 ghost use Rattle.std.specs.Prelude.{◌≡◌};
 ghost use Rattle.refusals.specs.Reasons.{number_of};
 
-// Why a call was refused.
+// Why a call was refused, with its number in the refusal table.
 #[derive(Clone, Copy, PartialEq, Eq, Debug)]
 pub enum Reason {
     // the host's memory has not as many places as the book or the engine needs
-    Memory,
+    Memory = 51,
     // a message is not 14 bytes long
-    Length,
+    Length = 1,
     // a message names no edition that is known
-    Edition,
+    Edition = 2,
     // a message names no kind that is known
-    Kind,
+    Kind = 3,
     // a field of a message has a value that it may not have
-    Field,
+    Field = 4,
     // a message cannot be written into the room
-    Unwritable,
+    Unwritable = 5,
     // a strategy has not 2 to 4 legs
-    LegCount,
+    LegCount = 11,
     // a leg's series is too high, or does not rise
-    Series,
+    Series = 12,
     // a ratio is out of bounds, too far from another, or all share a divisor
-    Ratio,
+    Ratio = 13,
     // a strategy of the same legs is defined already
-    SameLegs,
+    SameLegs = 14,
     // the table of strategies is full
-    TableFull,
+    TableFull = 15,
     // no such strategy is defined
-    Strategy,
+    Strategy = 21,
     // the quantity of an order is out of bounds
-    Quantity,
+    Quantity = 22,
     // the limit of an order is out of bounds, or a market order has one
-    Limit,
+    Limit = 23,
     // as many orders rest as can
-    BookFull,
+    BookFull = 24,
     // as many orders were accepted as can be numbered
-    NumbersSpent,
+    NumbersSpent = 25,
     // no order of that number rests
-    NotResting,
+    NotResting = 31,
     // the book carries no such series
-    NoSeries,
+    NoSeries = 41,
     // a side's best has not the quantity that is to be taken
-    TooMany,
+    TooMany = 42,
     // the price or the size of a lot is out of bounds
-    BadLot,
+    BadLot = 43,
     // as many lots stand as can
-    LotsFull,
+    LotsFull = 44,
     // as many lots were posted as can be numbered
-    LotNumbersSpent,
+    LotNumbersSpent = 45,
     // no lot of that number stands
-    NoLot,
+    NoLot = 46,
 }
 
 impl Reason {
@@ -58,30 +58,6 @@ impl Reason {
     pub fn number(self) -> u32
         ensures { result ≡ number_of self }
     {
-        match self {
-            Reason::Memory => 51,
-            Reason::Length => 1,
-            Reason::Edition => 2,
-            Reason::Kind => 3,
-            Reason::Field => 4,
-            Reason::Unwritable => 5,
-            Reason::LegCount => 11,
-            Reason::Series => 12,
-            Reason::Ratio => 13,
-            Reason::SameLegs => 14,
-            Reason::TableFull => 15,
-            Reason::Strategy => 21,
-            Reason::Quantity => 22,
-            Reason::Limit => 23,
-            Reason::BookFull => 24,
-            Reason::NumbersSpent => 25,
-            Reason::NotResting => 31,
-            Reason::NoSeries => 41,
-            Reason::TooMany => 42,
-            Reason::BadLot => 43,
-            Reason::LotsFull => 44,
-            Reason::LotNumbersSpent => 45,
-            Reason::NoLot => 46,
-        }
+        self as u32
     }
 }

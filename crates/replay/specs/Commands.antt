@@ -49,12 +49,15 @@ entry_in series side class price size =
 abbrev pub entry_words : List (List ℕ) → Option Entry
 entry_words ws = cond (length ws == 5) (entry_in (word ws 0) (word ws 1) (word ws 2) (word ws 3) (word ws 4)) None
 
--- `withdraw` takes the number of a lot, `hold` and `release` a series, and `book` a kind
+-- `withdraw` takes the number of a lot, `hold` and `release` a series, and `book` a kind: each one word
+abbrev pub only : List (List ℕ) → Option (List ℕ)
+only ws = cond (length ws == 1) (Some (word ws 0)) None
+
 abbrev pub number_words : List (List ℕ) → Option ℕ
-number_words ws = cond (length ws == 1) (small_in (word ws 0)) None
+number_words ws = then (only ws) small_in
 
 abbrev pub book_words : List (List ℕ) → Option Kind
-book_words ws = cond (length ws == 1) (kind_in (word ws 0)) None
+book_words ws = then (only ws) kind_in
 
 -- `best` takes a series and a side, and `take` a quantity besides
 abbrev pub best_words : List (List ℕ) → Option LayerCall

@@ -1,7 +1,8 @@
 // What the words of a line ask for.
 ghost use Rattle.std.specs.Prelude.{◌≡◌};
+ghost use Rattle.std.specs.Option.{option_copied};
 ghost use Rattle.text.specs.Words.{lent};
-ghost use Rattle.replay.specs.Commands.{small_in, side_in, class_in, kind_in, entry_words, number_words, book_words, best_words, take_words, layer_call_in, command_in};
+ghost use Rattle.replay.specs.Commands.{small_in, side_in, class_in, kind_in, entry_words, only, best_words, take_words, layer_call_in, command_in};
 
 use crate::answer::Complaint;
 use crate::command::{BookCall, Command, Entry, Kind, LayerCall};
@@ -68,23 +69,14 @@ fn entry_words(words: &[&[u8]]) -> Option<Entry>
     Some(Entry { series, side, lot })
 }
 
-// The one number behind `withdraw`, `hold` and `release`.
-fn number_words(words: &[&[u8]]) -> Option<u32>
-    ensures { result ≡ number_words (lent words.now) }
+// The word behind a command that takes one.
+fn only<'a>(words: &[&'a [u8]]) -> Option<&'a [u8]>
+    ensures { option_copied result ≡ only (lent words.now) }
 {
-    let [word] = words else {
-        return None;
-    };
-    small_number(word)
-}
-
-fn book_words(words: &[&[u8]]) -> Option<Kind>
-    ensures { result ≡ book_words (lent words.now) }
-{
-    let [kind] = words else {
-        return None;
-    };
-    kind_named(kind)
+    match words {
+        [word] => Some(word),
+        _ => None,
+    }
 }
 
 fn best_words(words: &[&[u8]]) -> Option<LayerCall>
@@ -121,14 +113,18 @@ fn command_named(name: &[u8], words: &[&[u8]]) -> Result<Command, Complaint>
     let command = match name {
         b"best" => best_words(words).map(Command::ToLayer),
         b"take" => take_words(words).map(Command::ToLayer),
-        b"hold" => number_words(words).map(|series| Command::ToLayer(LayerCall::Hold(series))),
-        b"release" => number_words(words).map(|series| Command::ToLayer(LayerCall::Release(
-            series,
-        ))),
-        b"book" => book_words(words).map(Command::Open),
+        b"hold" => only(words)
+            .and_then(small_number)
+            .map(|series| Command::ToLayer(LayerCall::Hold(series))),
+        b"release" => only(words)
+            .and_then(small_number)
+            .map(|series| Command::ToLayer(LayerCall::Release(series))),
+        b"book" => only(words).and_then(kind_named).map(Command::Open),
         b"quote" => entry_words(words).map(|entry| Command::ToBook(BookCall::Quote(entry))),
         b"post" => entry_words(words).map(|entry| Command::ToBook(BookCall::Post(entry))),
-        b"withdraw" => number_words(words).map(|lot| Command::ToBook(BookCall::Withdraw(lot))),
+        b"withdraw" => only(words)
+            .and_then(small_number)
+            .map(|lot| Command::ToBook(BookCall::Withdraw(lot))),
         _ => return Err(Complaint::Unknown),
     };
     command.ok_or(Complaint::Misworded)

@@ -1,7 +1,7 @@
 // A depth book in a session: it has posts and withdrawals, and no quotes.
 ghost use Rattle.std.specs.Prelude.{◌≡◌, IfOk, vec_len};
 ghost use Rattle.depth.specs.Limits.{lot_places};
-ghost use Rattle.replay.specs.Sessions.{posted_answer, depth_answers, depth_leaves};
+ghost use Rattle.replay.specs.Sessions.{depth_answers, depth_leaves};
 
 use crate::answer::{Answer, Complaint};
 use crate::command::BookCall;
@@ -9,19 +9,8 @@ use crate::layer::done_answer;
 use crate::sessions::SessionBook;
 use depth::{DepthBook, LOT_PLACES};
 use lots::PostedLot;
-use refusals::Refusal;
 use simple::{Lot, Side};
 use std::alloc::{AllocError, Global};
-
-// The answer to a post: the number of its lot, or why it was refused.
-fn posted_answer(res: Result<u32, Refusal>) -> Answer
-    ensures { result ≡ posted_answer res }
-{
-    match res {
-        Ok(number) => Answer::Lot(number),
-        Err(refusal) => Answer::Refused(refusal),
-    }
-}
 
 impl<'a> SessionBook for DepthBook<'a> {
     ghost answers = { depth_answers };
@@ -31,7 +20,9 @@ impl<'a> SessionBook for DepthBook<'a> {
     fn call(&mut self, call: BookCall) -> Answer {
         match call {
             BookCall::Quote(_) => Answer::Wrong(Complaint::Unfit),
-            BookCall::Post(entry) => posted_answer(self.post(entry.series, entry.side, entry.lot)),
+            BookCall::Post(entry) => self
+                .post(entry.series, entry.side, entry.lot)
+                .map_or_else(Answer::Refused, Answer::Lot),
             BookCall::Withdraw(lot) => done_answer(self.withdraw(lot)),
         }
     }

@@ -10,10 +10,10 @@ use refusals::Refusal;
 use simple::SimpleBook;
 
 // The answer to a call that says no more than that it was done.
-pub(crate) fn done_answer(res: Result<(), Refusal>) -> Answer
-    ensures { result ≡ done_answer res }
+pub(crate) fn done_answer(answer: Result<(), Refusal>) -> Answer
+    ensures { result ≡ done_answer answer }
 {
-    match res {
+    match answer {
         Ok(()) => Answer::Done,
         Err(refusal) => Answer::Refused(refusal),
     }

@@ -24,7 +24,7 @@ use holds::HoldLayer;
 
 // The lines before the first session; answers the kind of its book.
 fn unopened(rt: &HostRuntime, input: &mut Input) -> anyhow::Result<Option<Kind>> {
-    // a count bounds the loop, since a `for` over the input would hold what prints the answers
+    // a count bounds the loop: a `for` over the input would hold it, and an answer that is printed may mark it
     for _ in 0..u64::MAX {
         let Some(said) = input.next(rt.alloc())? else {
             break;
@@ -44,7 +44,7 @@ fn session<B: SessionBook + Drop>(
     book: B,
 ) -> anyhow::Result<Option<Kind>> {
     let mut layer = HoldLayer::new(book);
-    // a count bounds the loop, since a `for` over the input would hold what prints the answers
+    // a count bounds the loop: a `for` over the input would hold it, and an answer that is printed may mark it
     for _ in 0..u64::MAX {
         let Some(said) = input.next(rt.alloc())? else {
             break;
