@@ -25,10 +25,6 @@ quote_lot c q = lot_at q.price q.size c
 abbrev pub standing : Lot → List Lot
 standing l = cond (l.size == 0) [] (l ∷ [])
 
--- and is no quote
-abbrev pub lot_quoted : Lot → Option Lot
-lot_quoted l = cond (l.size == 0) None (Some l)
-
 -- a Priority Customer's lot x stands ahead of a maker's lot y, if both stand
 abbrev pub ahead_of : Side → Option Lot → Option Lot → Bool
 ahead_of d (Some x) (Some y) = precedes d x y

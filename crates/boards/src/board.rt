@@ -1,10 +1,9 @@
 // A board of quotes: a simple book over fixed fields.
 ghost use Rattle.std.specs.Prelude.{◌≡◌, ℕ, ◌≤◌, [], slice_index_or};
-ghost use Rattle.simple.specs.Limits.{highest_price, lot_limit};
 ghost use Rattle.simple.specs.Lots.{empty_book, with_side};
 ghost use Rattle.simple.specs.Take.{after};
 ghost use Rattle.boards.specs.Limits.{last_quoted};
-ghost use Rattle.boards.specs.Board.{board_lots, side_lots, quotes_of, no_sides, quote_answer, quoted, Requoted, Requotes};
+ghost use Rattle.boards.specs.Board.{board_lots, side_lots, quotes_of, no_sides, quote_answer, quoted, Requotes};
 ghost use Rattle.boards.specs.Lawfulness.{board_lawful};
 
 use crate::limits::{LAST_QUOTED, QUOTED_COUNT};
@@ -51,19 +50,9 @@ impl QuoteBoard {
         if lot.price == 0 || lot.price > HIGHEST_PRICE || lot.size > LOT_LIMIT {
             return Err(Refusal::at(Station::Quote, Reason::BadLot));
         }
-        self.set(series, side, lot);
-        Ok(())
-    }
-
-    // Sets one of the two quotes of a side.
-    fn set(&mut self, series: u32, side: Side, lot: Lot)
-        requires series { series ≤ last_quoted }
-        requires lot { (1 ≤ lot.price) × (lot.price ≤ highest_price) × (lot.size ≤ lot_limit) }
-        ensures lots { board_lots self.new ≡ quoted (board_lots self.old) series side lot }
-        ensures sets { Requoted (board_lots self.old) (board_lots self.new) series side lot }
-    {
         let quotes = self.quotes(series, side);
         self.put(series, side, quotes.with(lot));
+        Ok(())
     }
 
     // The two quotes of a side; none above the last series that a board carries.

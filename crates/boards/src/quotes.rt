@@ -4,27 +4,12 @@ ghost use Rattle.std.specs.Option.{option_map, option_to_list};
 ghost use Rattle.simple.specs.Limits.{highest_price, lot_limit};
 ghost use Rattle.simple.specs.Best.{best_of};
 ghost use Rattle.simple.specs.Take.{take_from};
-ghost use Rattle.boards.specs.Board.{quote_lot, lot_quoted, ahead_of, size_left, lot_left, side_lots, no_quotes, requoted};
+ghost use Rattle.boards.specs.Board.{quote_lot, ahead_of, size_left, lot_left, side_lots, no_quotes, requoted};
 
 use crate::quote::{Quote, Quotes};
 use simple::{Best, Lot, Side};
 
 impl Quote {
-    // The quote that a lot makes, or none where it has no size. Its bounds stand in three contracts: size 0 is within them, and is
-    // no quote, so the type of a quote cannot hold them.
-    fn of(lot: Lot) -> Option<Quote>
-        requires { (1 ≤ lot.price) × (lot.price ≤ highest_price) × (lot.size ≤ lot_limit) }
-        ensures { option_map (quote_lot lot.customer) result ≡ lot_quoted lot }
-    {
-        if lot.size == 0 {
-            return None;
-        }
-        Some(Quote {
-            price: lot.price,
-            size: lot.size,
-        })
-    }
-
     // The quote as a lot. No `From`: a quote does not say whose it is.
     fn lot(self, customer: bool) -> Lot
         ensures is { result ≡ quote_lot customer self }
@@ -102,21 +87,28 @@ impl Quotes {
         }
     }
 
-    // The quotes once a lot takes the place of what its class had.
+    // The quotes once a lot takes the place of what its class had: none where it has no size.
     pub(crate) fn with(self, lot: Lot) -> Quotes
         requires { (1 ≤ lot.price) × (lot.price ≤ highest_price) × (lot.size ≤ lot_limit) }
         ensures { (d : Side) → side_lots d result ≡ requoted d lot (side_lots d self) }
     {
-        let quote = Quote::of(lot);
+        let quote = if lot.size == 0 {
+            None
+        } else {
+            Some(Quote {
+                price: lot.price,
+                size: lot.size,
+            })
+        };
         if lot.customer {
             Quotes {
-                maker: self.maker,
                 customer: quote,
+                ..self
             }
         } else {
             Quotes {
                 maker: quote,
-                customer: self.customer,
+                ..self
             }
         }
     }

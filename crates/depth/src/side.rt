@@ -71,7 +71,7 @@ pub(crate) fn best(lots: &[PostedLot]) -> Option<Best>
     ensures { result ≡ best_of (all_lots lots.now) }
 {
     let mut best = None;
-    // No `fold`: its closure would have to take any best, and `join` asks that the sizes fit.
+    // Tried as a `fold`, the proof did not close: that the sizes fit at each turn, which its closure asks, was not found.
     for entry in lots {
         best = join(best, entry.lot);
     }

@@ -35,6 +35,7 @@ pub(crate) fn place_of<E: Ranked>(entries: &[E], e: &E) -> usize
         .unwrap_or(entries.len())
 }
 
+// `n` stands beside the slots: tried, the proof did not close: of a part lent out of `&mut self` only the length is known.
 /// Puts an entry in among the first `n`, at the place where it belongs: those from there on move up by one slot.
 pub(crate) fn put_in<E: Ranked>(slots: &mut [E], n: usize, place: usize, e: E)
     requires within { (place ≤ n) × (n < length slots.old) }
