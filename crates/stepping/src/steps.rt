@@ -22,7 +22,7 @@ pub enum Step {
 }
 
 impl Step {
-    // The number of the order that is legged.
+    // The number of the order that is legged; of a pair, that of its buy.
     pub(crate) fn number(&self) -> u32
         ensures { result ≡ number_in (told self.now) }
     {
