@@ -7,8 +7,7 @@ ghost use Rattle.rules.specs.Events.{define, place, evaluate, cancel, answer_def
 ghost use Rattle.rules.specs.Runs.{Run, Happens};
 ghost use Rattle.engine.specs.Model.{model};
 
-use crate::held::Engine;
-use crate::table::StrategyTable;
+use crate::held::{Engine, StrategyTable};
 use carrying::{entered, evaluate_with, place_with};
 use ranked::RankedList;
 use refusals::{Refusal, Station};

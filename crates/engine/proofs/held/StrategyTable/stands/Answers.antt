@@ -6,7 +6,7 @@ use Rattle.std.proofs.lemmas.Iterator.Search.{any_from_yields_List}
 use Rattle.strategies.specs.Rows.{row_legs}
 use Rattle.engine.specs.Table.{rows_of}
 use Rattle.engine.proofs.Tables.{leg_eq, stands_so}
-use Rattle.engine.proofs.table.StrategyTable.stands.Goals as goal
+use Rattle.engine.proofs.held.StrategyTable.stands.Goals as goal
 
 pub returns : goal.returns
 returns c =

@@ -6,7 +6,7 @@ use Rattle.stepping.specs.declared.defined.Defined.{Defined}
 use Rattle.strategies.specs.Strategies.{strategy_legs}
 use Rattle.engine.specs.Table.{rows_of}
 use Rattle.engine.proofs.Tables.{row_at, strategy_none, strategy_some}
-use Rattle.engine.proofs.table.StrategyTable.strategy.Goals as goal
+use Rattle.engine.proofs.held.StrategyTable.strategy.Goals as goal
 
 pub returns-in_err-row-clause-legs : goal.returns-in_err-row-clause-legs
 returns-in_err-row-clause-legs c = ap (option_map (λ (x : Defined). strategy_legs x.strategy)) c.from_residual.ensures ∙ strategy_none (rows_of c.args.self.now) c.args.number (row_at _ c.args.number None c.in_err-row.ensures.lookup ∙ ap (λ rows. slice_get rows c.args.number) c.defined.ensures.value)
