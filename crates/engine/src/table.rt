@@ -60,8 +60,7 @@ impl StrategyTable {
 
     // The rows of the strategies that are defined.
     fn defined(&self) -> &[StrategyRow]
-        ensures value { result.now ≡ rows_of self.now }
-        ensures within { length result.now ≤ strategy_places }
+        ensures { result.now ≡ rows_of self.now }
     {
         &self.rows[..self.count]
     }
@@ -90,8 +89,7 @@ impl StrategyTable {
         requires { length (rows_of self.old) < strategy_places }
         ensures { rows_of self.new ≡ rows_of self.old ++ (row ∷ []) }
     {
-        let n = self.len();
-        self.rows[n] = row;
-        self.count = n + 1;
+        self.rows[self.count] = row;
+        self.count += 1;
     }
 }

@@ -12,5 +12,5 @@ pub returns : goal.returns
 returns c =
     let legs = row_legs c.args.row.now in
     let rows = rows_of c.args.self.now in
-    any_from_yields_List (λ row. pointwise leg_eq (row_legs row) legs) _ _ c.any.result c.any.ensures.ran (YieldsList-from_slice rows (c.iter.ensures.rest ∙ c.defined.ensures.value)) (λ x b q k. search rules)
+    any_from_yields_List (λ row. pointwise leg_eq (row_legs row) legs) _ _ c.any.result c.any.ensures.ran (YieldsList-from_slice rows (c.iter.ensures.rest ∙ c.defined.ensures)) (λ x b q k. search rules)
     ∙ stands_so legs rows
