@@ -7,7 +7,7 @@ use pricing::NetPrice;
 use rules::{Execution, Order};
 
 // A buy and a sell that trade with each other, or an order that trades with the simple book, so much of it.
-#[derive(Clone, Copy)]
+#[derive(Clone, Copy, PartialEq, Eq, Debug)]
 pub enum Step {
     Pair {
         buy: Order,
