@@ -1,4 +1,4 @@
-// The calls, each with its equation to the rules.
+// The calls, each with its equation to the rules. The call of a message needs no more; the law is added in entry.rt.
 ghost use Rattle.std.specs.Prelude.{◌≡◌, ℕ, [], length, take, ◌==◌};
 ghost use Rattle.simple.specs.Lots.{Lots};
 ghost use Rattle.rules.specs.Limits.{order_places};

@@ -17,6 +17,8 @@ pub(crate) struct StrategyTable {
 }
 
 // The orders at rest, in the host's memory, the strategies, and how many orders were accepted.
+// The book and the list are the caller's and come with each call, as two parameters: no type of this crate can hold that the
+// book's frame stays.
 #[derive(Drop)]
 pub struct Engine<'a> {
     pub(crate) orders: RankedList<'a, Order>,
