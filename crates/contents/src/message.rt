@@ -7,7 +7,7 @@ use crate::sides::{LegSide, OrderSide};
 use std::fmt;
 
 // An order, in numbers wider than their fields, so that one that does not fit can be refused.
-#[derive(Clone, Copy)]
+#[derive(Clone, Copy, PartialEq, Eq, Debug)]
 pub struct PlaceFields {
     pub strategy: u64,
     pub side: OrderSide,
@@ -20,7 +20,7 @@ pub struct PlaceFields {
 }
 
 // A leg of a definition, in numbers wider than their fields.
-#[derive(Clone, Copy)]
+#[derive(Clone, Copy, PartialEq, Eq, Debug)]
 pub struct LegFields {
     pub series: u64,
     pub side: LegSide,
@@ -28,14 +28,14 @@ pub struct LegFields {
 }
 
 // A definition: its leg count, which may be any number, and four legs, counted or not.
-#[derive(Clone, Copy)]
+#[derive(Clone, Copy, PartialEq, Eq, Debug)]
 pub struct DefineFields {
     pub count: u64,
     pub legs: [LegFields; 4],
 }
 
 // A message by its kind.
-#[derive(Clone, Copy)]
+#[derive(Clone, Copy, PartialEq, Eq, Debug)]
 pub enum Message {
     Place(PlaceFields),
     Cancel { number: u64 },
@@ -44,7 +44,7 @@ pub enum Message {
 }
 
 // A message that was read, and the edition that it came in.
-#[derive(Clone, Copy)]
+#[derive(Clone, Copy, PartialEq, Eq, Debug)]
 pub struct Received {
     pub edition: Edition,
     pub message: Message,

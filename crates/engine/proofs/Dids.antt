@@ -1,6 +1,5 @@
 -- What each call does, from what it left.
-use Rattle.std.proofs.Common.{◌≡◌, ℕ, ◌+◌, ◌<◌, Bool, true, false, cond, not, ◌&&◌, eqb, ltb, leb, List, [], ◌∷◌, ◌++◌, length, take, drop, is_some, Some, None, Ok, Err, Option, Result, sym, refl, ap, ◌∙◌, subst, arith}
-use Rattle.std.specs.Option.{ok_or}
+use Rattle.std.proofs.Common.{◌≡◌, ℕ, ◌+◌, ◌<◌, Bool, true, false, cond, not, ◌&&◌, eqb, ltb, leb, List, [], ◌∷◌, ◌++◌, length, take, drop, is_some, Some, None, Err, Option, Result, sym, refl, ap, ◌∙◌, subst, arith}
 use Rattle.std.specs.Result.{IsErrAnd}
 use Rattle.std.proofs.lemmas.Result.{err_from_is_err_and}
 use Rattle.std.proofs.lemmas.List.{take_at}
@@ -47,6 +46,21 @@ module _ (s : State) (b : Lots) (d : Did) (r : Option Refusal) where
   pub goes_on : None ≡ r → unless r s b d ≡ d
   goes_on e = ap (λ r. unless r s b d) (sym e)
 
+-- a look-up that fails, or not: the memory, then what was found
+module _ {X : Type 0} (s : State) (found : Option X) (no : Refusal) where
+  abbrev pub look_up_test : Option Refusal
+  look_up_test = test (not s.ready) (refused_at Opening Memory) (test (not (is_some found)) no None)
+
+  pub was_ready : None ≡ look_up_test → None ≡ memory_test s
+  was_ready e = ap (λ t. test t (refused_at Opening Memory) None) (sym (passed (not s.ready) (refused_at Opening Memory) (test (not (is_some found)) no None) e).0)
+
+-- a call goes on with what its look-up found; where there is none it is refused
+module _ {X : Type 0} (s : State) (b : Lots) (on : Option X → Did) (no : Refusal) (none : on None ≡ refuse s b no) where
+  pub look_up_refused : (ready : Bool) (found : Option X) (why : Refusal) → Some why ≡ test (not ready) (refused_at Opening Memory) (test (not (is_some found)) no None) → unless (test (not ready) (refused_at Opening Memory) None) s b (on found) ≡ refuse s b why
+  look_up_refused false found why e = let same : why ≡ refused_at Opening Memory = cc in ap (refuse s b) (sym same)
+  look_up_refused true None why e = let same : why ≡ no = cc in none ∙ ap (refuse s b) (sym same)
+  look_up_refused true (Some x) why e = let z : ◌≡◌ {A = ℕ} 0 1 = cc in absurd (omega arith)
+
 -- it is the first of the tests
 pub first_test : (ready : Bool) (why : Refusal) (rest : Option Refusal) → Some why ≡ test (not ready) (refused_at Opening Memory) None → Some why ≡ test (not ready) (refused_at Opening Memory) rest
 first_test true why rest e = let z : ◌≡◌ {A = ℕ} 0 1 = cc in absurd (omega arith)
@@ -59,15 +73,6 @@ refused_so s d b list why a e is = e ∙ ap (λ a. record { answer = a; executio
 -- a `?` hands its refusal on
 pub err_so : {T : Type 0} (r : Result T Refusal) (why : Refusal) → IsErrAnd r (λ y. y ≡ why) → r ≡ Err why
 err_so r why h = let p = err_from_is_err_and r h in p.1 ∙ ap Err p.2
-
--- `ok_or`, by its answer
-pub ok_or_err : {X : Type 0} (o : Option X) (e why : Refusal) → Err why ≡ ok_or o e → (None ≡ o) × (why ≡ e)
-ok_or_err None e why is = (refl, cc)
-ok_or_err (Some x) e why is = let z : ◌≡◌ {A = ℕ} 0 1 = cc in absurd (omega arith)
-
-pub ok_or_ok : {X : Type 0} (o : Option X) (e : Refusal) (x : X) → Ok x ≡ ok_or o e → Some x ≡ o
-ok_or_ok None e x is = let z : ◌≡◌ {A = ℕ} 0 1 = cc in absurd (omega arith)
-ok_or_ok (Some y) e x is = let same : x ≡ y = cc in ap Some same
 
 -- a list of records: those written, then what stood there
 module _ (xs before after : List Execution) (n : ℕ) (list : after ≡ written_over xs before) (many : n ≡ length xs) where
@@ -92,13 +97,9 @@ module _ (s : State) (row : StrategyRow) where
 -- ## cancel
 
 module _ (s : State) (n : ℕ) (b : Lots) (k : ℕ) where
-  pub cancel_stopped : (why : Refusal) → Some why ≡ memory_test s → did s (cancel n) b k ≡ refuse s b why
+  pub cancel_refused : (why : Refusal) → Some why ≡ look_up_test s (order_with n s.orders) (refused_at Cancel NotResting) → did s (cancel n) b k ≡ refuse s b why
   unfolding did
-  cancel_stopped why e = stopped s b (cancel_found s b n (order_with n s.orders)) (memory_test s) why e
-
-  pub cancel_none : (why : Refusal) → None ≡ memory_test s → None ≡ order_with n s.orders → why ≡ refused_at Cancel NotResting → did s (cancel n) b k ≡ refuse s b why
-  unfolding did
-  cancel_none why e none is = goes_on s b (cancel_found s b n (order_with n s.orders)) (memory_test s) e ∙ ap (cancel_found s b n) (sym none) ∙ ap (refuse s b) (sym is)
+  cancel_refused why e = look_up_refused s b (cancel_found s b n) (refused_at Cancel NotResting) refl s.ready (order_with n s.orders) why e
 
   pub cancelled_so : (o : Order) (ready : Bool) (os : List Order) → None ≡ memory_test s → Some o ≡ order_with n s.orders → ready ≡ s.ready → os ≡ dropped n s.orders → did s (cancel n) b k ≡ record { answer = cancelled o.quantity; executions = []; after = b; next = record { ready = ready; strategies = s.strategies; orders = os; accepted = s.accepted } }
   unfolding did
@@ -109,13 +110,9 @@ module _ (s : State) (n : ℕ) (b : Lots) (k : ℕ) where
 -- ## evaluate
 
 module _ (s : State) (n : ℕ) (b : Lots) (room : ℕ) where
-  pub evaluate_stopped : (why : Refusal) → Some why ≡ memory_test s → did s (evaluate n) b room ≡ refuse s b why
+  pub evaluate_refused : (why : Refusal) → Some why ≡ look_up_test s (strategy_at s.strategies n) (refused_at Evaluate Strategy) → did s (evaluate n) b room ≡ refuse s b why
   unfolding did
-  evaluate_stopped why e = stopped s b (evaluate_on s b room n (strategy_at s.strategies n)) (memory_test s) why e
-
-  pub evaluate_none : (why : Refusal) → None ≡ memory_test s → None ≡ strategy_at s.strategies n → why ≡ refused_at Evaluate Strategy → did s (evaluate n) b room ≡ refuse s b why
-  unfolding did
-  evaluate_none why e none is = goes_on s b (evaluate_on s b room n (strategy_at s.strategies n)) (memory_test s) e ∙ ap (evaluate_on s b room n) (sym none) ∙ ap (refuse s b) (sym is)
+  evaluate_refused why e = look_up_refused s b (evaluate_on s b room n) (refused_at Evaluate Strategy) refl s.ready (strategy_at s.strategies n) why e
 
   pub evaluated_so : (legs : List Leg) (ready : Bool) (before after : List Execution) (os : List Order) (lots : Lots) (v : Evaluated) (m : ℕ) → None ≡ memory_test s → Some legs ≡ strategy_at s.strategies n → m ≡ n → ready ≡ s.ready → Ended legs m (steps legs m room (trading s.orders b)) before after (trading os lots) v
       → did s (evaluate n) b room ≡ record { answer = evaluated v; executions = take v.records after; after = lots; next = record { ready = ready; strategies = s.strategies; orders = os; accepted = s.accepted } }

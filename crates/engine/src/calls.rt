@@ -1,4 +1,4 @@
-// The calls, each with its equation to the rules.
+// The calls, each with its equation to the rules. The call of a message needs no more; the law is added in entry.rt.
 ghost use Rattle.std.specs.Prelude.{◌≡◌, ℕ, [], length, take, ◌==◌};
 ghost use Rattle.simple.specs.Lots.{Lots};
 ghost use Rattle.rules.specs.Limits.{order_places};
@@ -7,14 +7,13 @@ ghost use Rattle.rules.specs.Events.{define, place, evaluate, cancel, answer_def
 ghost use Rattle.rules.specs.Runs.{Run, Happens};
 ghost use Rattle.engine.specs.Model.{model};
 
-use crate::held::Engine;
-use crate::table::StrategyTable;
+use crate::held::{Engine, StrategyTable};
 use carrying::{entered, evaluate_with, place_with};
 use ranked::RankedList;
-use refusals::{Reason, Refusal, Station};
+use refusals::{Refusal, Station};
 use rules::{Evaluated, Execution, NewOrder, Order, Placed};
 use simple::SimpleBook;
-use stepping::{drop_order, order_with};
+use stepping::drop_order;
 use strategies::{Leg, StrategyRow};
 
 impl<'a> Engine<'a> {
@@ -45,11 +44,7 @@ impl<'a> Engine<'a> {
     pub(crate) fn do_cancel(&mut self, number: u32) -> Result<u32, Refusal>
         ensures equation { (b : Lots) (k : ℕ) → Happens (model self.old) (apart (cancel number) b k (answer_cancel result)) (model self.new) }
     {
-        self.check_ready()?;
-        let order = order_with(&self.orders, number).ok_or(Refusal::at(
-            Station::Cancel,
-            Reason::NotResting,
-        ))?;
+        let order = self.resting(Station::Cancel, number)?;
         drop_order(&mut self.orders, number);
         Ok(order.quantity)
     }
@@ -65,11 +60,7 @@ impl<'a> Engine<'a> {
         ensures list { executions.new ≡ written_over (take (records_told (answer_evaluate result)) executions.new) executions.old }
         ensures frame { B.SimpleBook.frame book.new ≡ B.SimpleBook.frame book.old }
     {
-        self.check_ready()?;
-        let strategy = self
-            .table
-            .strategy(strategy)
-            .ok_or(Refusal::at(Station::Evaluate, Reason::Strategy))?;
+        let strategy = self.defined(Station::Evaluate, strategy)?;
         Ok(evaluate_with(&mut self.orders, book, executions, &strategy))
     }
 

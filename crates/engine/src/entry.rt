@@ -13,7 +13,8 @@ use simple::SimpleBook;
 use strategies::Leg;
 
 impl Engine<'_> {
-    // Defines a strategy of so many of the legs, and answers its number. It sees no book, so its promise is for any.
+    // Defines a strategy of so many of the legs, which are four as in a message, and answers its number. It sees no book, so its
+    // promise is for any.
     pub fn define(&mut self, count: u32, legs: &[Leg; 4]) -> Result<u32, Refusal>
         ensures equation { (b : Lots) (k : ℕ) → Happens (model self.old) (apart (define (record { count = count; legs = legs.now })) b k (answer_define result)) (model self.new) }
         ensures runs { (b : Lots) (k : ℕ) → Lawful b → Always (model self.old) (apart (define (record { count = count; legs = legs.now })) b k (answer_define result)) (model self.new) }

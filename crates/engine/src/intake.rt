@@ -49,8 +49,6 @@ fn legs_of(fields: [LegFields; 4]) -> [Leg; 4]
     fields.map(leg_of)
 }
 
-// The book and the list are the caller's and come with each call, as two parameters: no type of this crate can hold that the
-// book's frame stays.
 impl Engine<'_> {
     // Makes the call that a message asks for.
     fn act<B: SimpleBook>(

@@ -1,10 +1,11 @@
 // Why a call is refused: its tests in order, the first that fails.
-ghost use Rattle.std.specs.Prelude.{◌≡◌, ◌&&◌, not, nat_le, Some, None, MatchResult};
+ghost use Rattle.std.specs.Prelude.{◌≡◌, ◌&&◌, not, nat_le, is_some, Some, None, MatchResult};
 ghost use Rattle.std.specs.Result.{result_err};
-ghost use Rattle.refusals.specs.declared.reason.Reason.TheVariants.{Memory};
+ghost use Rattle.refusals.specs.declared.reason.Reason.TheVariants.{Memory, Strategy, NotResting};
 ghost use Rattle.refusals.specs.declared.station.Station.TheVariants.{Opening};
 ghost use Rattle.refusals.specs.Refusals.{refused_at};
 ghost use Rattle.strategies.specs.Strategies.{strategy_legs};
+ghost use Rattle.rules.specs.Orders.{order_with};
 ghost use Rattle.rules.specs.States.{strategy_at};
 ghost use Rattle.rules.specs.Limits.{most_quantity};
 ghost use Rattle.rules.specs.Calls.{test, limit_lawful, place_refusal, define_refusal};
@@ -13,8 +14,8 @@ ghost use Rattle.engine.specs.Model.{model};
 use crate::held::Engine;
 use crate::limits::{MOST_ACCEPTED, MOST_QUANTITY, ORDER_PLACES, STRATEGY_PLACES};
 use refusals::{Reason, Refusal, Station};
-use rules::{FURTHEST_LIMIT, NewOrder};
-use stepping::Defined;
+use rules::{FURTHEST_LIMIT, NewOrder, Order};
+use stepping::{Defined, order_with};
 use strategies::StrategyRow;
 
 // Whether an order's limit lies within the furthest, or is 0 for a market order.
@@ -54,6 +55,26 @@ impl<'a> Engine<'a> {
         }
     }
 
+    // The strategy of a number, or the refusal of a call at that station.
+    pub(crate) fn defined(&self, station: Station, number: u32) -> Result<Defined, Refusal>
+        ensures refusal { result_err result ≡ test (not (model self.now).ready) (refused_at Opening Memory) (test (not (is_some (strategy_at (model self.now).strategies number))) (refused_at station Strategy) None) }
+        ensures strategy { MatchResult result (λ x. (Some (strategy_legs x.strategy) ≡ strategy_at (model self.now).strategies number) × (x.number ≡ number)) (λ _. Unit {0}) }
+    {
+        self.check_ready()?;
+        self.table
+            .strategy(number)
+            .ok_or(Refusal::at(station, Reason::Strategy))
+    }
+
+    // The order that rests under a number, or the refusal of a call at that station.
+    pub(crate) fn resting(&self, station: Station, number: u32) -> Result<Order, Refusal>
+        ensures refusal { result_err result ≡ test (not (model self.now).ready) (refused_at Opening Memory) (test (not (is_some (order_with number (model self.now).orders))) (refused_at station NotResting) None) }
+        ensures order { MatchResult result (λ o. Some o ≡ order_with number (model self.now).orders) (λ _. Unit {0}) }
+    {
+        self.check_ready()?;
+        order_with(&self.orders, number).ok_or(Refusal::at(station, Reason::NotResting))
+    }
+
     // Why a strategy is not defined, if it is not.
     pub(crate) fn check_define(&self, row: &StrategyRow) -> Result<(), Refusal>
         ensures { result_err result ≡ define_refusal (model self.now) row.now }
@@ -75,11 +96,7 @@ impl<'a> Engine<'a> {
         ensures refusal { result_err result ≡ place_refusal (model self.now) order.now }
         ensures strategy { MatchResult result (λ x. (Some (strategy_legs x.strategy) ≡ strategy_at (model self.now).strategies order.now.strategy) × (x.number ≡ order.now.strategy)) (λ _. Unit {0}) }
     {
-        self.check_ready()?;
-        let strategy = self
-            .table
-            .strategy(order.strategy)
-            .ok_or(Refusal::at(Station::Place, Reason::Strategy))?;
+        let strategy = self.defined(Station::Place, order.strategy)?;
         if !quantity_lawful(order.quantity) {
             return Err(Refusal::at(Station::Place, Reason::Quantity));
         }

@@ -9,10 +9,9 @@ ghost use Rattle.engine.specs.Model.{model};
 
 use crate::held::Engine;
 use pricing::{StrategyMarket, displayed_price, market_of, net_market};
-use refusals::{Reason, Refusal, Station};
+use refusals::{Refusal, Station};
 use rules::Order;
 use simple::SimpleBook;
-use stepping::order_with;
 
 impl<'a> Engine<'a> {
     // Net bid and net offer of a strategy, or nothing while it is not free.
@@ -25,11 +24,7 @@ impl<'a> Engine<'a> {
         ensures lots { B.SimpleBook.lots book.new ≡ B.SimpleBook.lots book.old }
         ensures frame { B.SimpleBook.frame book.new ≡ B.SimpleBook.frame book.old }
     {
-        self.check_ready()?;
-        let defined = self
-            .table
-            .strategy(strategy)
-            .ok_or(Refusal::at(Station::Net, Reason::Strategy))?;
+        let defined = self.defined(Station::Net, strategy)?;
         Ok(net_market(book, &defined.strategy))
     }
 
@@ -49,11 +44,7 @@ impl<'a> Engine<'a> {
         ensures lots { B.SimpleBook.lots book.new ≡ B.SimpleBook.lots book.old }
         ensures frame { B.SimpleBook.frame book.new ≡ B.SimpleBook.frame book.old }
     {
-        self.check_ready()?;
-        let order = order_with(&self.orders, number).ok_or(Refusal::at(
-            Station::Display,
-            Reason::NotResting,
-        ))?;
+        let order = self.resting(Station::Display, number)?;
         let market = self.market_in(book, order.strategy);
         let limit = order.working_limit();
         Ok(displayed_price(market, order.buy, order.limit.is_none(), limit))

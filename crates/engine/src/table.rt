@@ -7,6 +7,7 @@ ghost use Rattle.rules.specs.Limits.{strategy_places};
 ghost use Rattle.rules.specs.States.{strategy_at, stands_among};
 ghost use Rattle.engine.specs.Table.{rows_of};
 
+use crate::held::StrategyTable;
 use crate::limits::STRATEGY_PLACES;
 use stepping::Defined;
 use strategies::{Leg, Strategy, StrategyRow};
@@ -38,28 +39,6 @@ const UNUSED: StrategyRow = StrategyRow {
     ],
 };
 
-// Rows of strategies: the first `count` of its places, or all if there are fewer.
-// An array with a count, and no Vec: the engine has fixed memory.
-#[derive(Drop)]
-pub(crate) struct StrategyTable {
-    rows: [StrategyRow; STRATEGY_PLACES],
-    count: usize,
-}
-
-// The first so many, or all if there are fewer.
-fn front<T>(all: &[T], count: usize) -> &[T]
-    ensures { result.now ≡ take count all.now }
-{
-    &all[..count.min(all.len())]
-}
-
-// The legs that a row counts.
-fn legs_of(row: &StrategyRow) -> &[Leg]
-    ensures { result.now ≡ row_legs row.now }
-{
-    front(&row.legs, row.count as usize)
-}
-
 impl StrategyTable {
     // A table with no strategy.
     pub(crate) fn new() -> StrategyTable
@@ -76,15 +55,14 @@ impl StrategyTable {
         ensures count { result ≡ length (rows_of self.now) }
         ensures within { result ≤ strategy_places }
     {
-        self.defined().len()
+        self.count
     }
 
     // The rows of the strategies that are defined.
     fn defined(&self) -> &[StrategyRow]
-        ensures value { result.now ≡ rows_of self.now }
-        ensures within { length result.now ≤ strategy_places }
+        ensures { result.now ≡ rows_of self.now }
     {
-        front(&self.rows, self.count)
+        &self.rows[..self.count]
     }
 
     // The strategy of a number.
@@ -103,7 +81,7 @@ impl StrategyTable {
     {
         self.defined()
             .iter()
-            .any(|other| legs_of(other) == legs_of(row))
+            .any(|other| other.counted() == row.counted())
     }
 
     // Defines one strategy more.
@@ -111,8 +89,7 @@ impl StrategyTable {
         requires { length (rows_of self.old) < strategy_places }
         ensures { rows_of self.new ≡ rows_of self.old ++ (row ∷ []) }
     {
-        let n = self.len();
-        self.rows[n] = row;
-        self.count = n + 1;
+        self.rows[self.count] = row;
+        self.count += 1;
     }
 }

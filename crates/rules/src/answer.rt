@@ -31,7 +31,7 @@ pub struct Evaluated {
 }
 
 // What the call answered that a message asked for.
-#[derive(Clone, Copy)]
+#[derive(Clone, Copy, PartialEq, Eq, Debug)]
 pub enum Intake {
     Defined(u32),
     Placed(Placed),
@@ -40,7 +40,7 @@ pub enum Intake {
 }
 
 // Why a message was not carried out: it cannot be read, or its call was refused.
-#[derive(Clone, Copy)]
+#[derive(Clone, Copy, PartialEq, Eq, Debug)]
 pub enum IntakeFault {
     Unread(ReaderFault),
     Refused(Refusal),

@@ -7,7 +7,7 @@ use contents::{OrderSide, TimeInForce};
 use ranked::Ranked;
 
 // An order as it is placed.
-#[derive(Clone, Copy)]
+#[derive(Clone, Copy, PartialEq, Eq, Debug)]
 pub struct NewOrder {
     pub strategy: u32,
     pub side: OrderSide,
@@ -19,7 +19,7 @@ pub struct NewOrder {
 }
 
 // An order that rests, with what is left of its quantity.
-#[derive(Clone, Copy)]
+#[derive(Clone, Copy, PartialEq, Eq, Debug)]
 pub struct Order {
     pub strategy: u32,
     pub buy: bool,
@@ -45,7 +45,7 @@ impl Order {
     }
 
     // By which it ranks, the lesser first. Of buys that is the higher limit: -1 - limit fits, where -limit may not.
-    fn keys(&self) -> (u32, bool, i64, u32)
+    fn key(&self) -> (u32, bool, i64, u32)
         ensures strategy { result.0 ≡ self.now.strategy }
         ensures side { result.1 ≡ not self.now.buy }
         ensures limit { result.2 ≡ (if self.now.buy then pos 0 -ℤ pos 1 -ℤ limit_of self.now else limit_of self.now) }
@@ -69,7 +69,7 @@ impl Ranked for Order {
     ghost transitive = { keys_transitive order_number order_keys };
 
     fn is_ahead(&self, other: &Order) -> bool {
-        self.keys() < other.keys()
+        self.key() < other.key()
     }
 
     fn number(&self) -> u32 {

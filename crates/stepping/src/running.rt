@@ -45,7 +45,7 @@ fn take<B: SimpleBook>(book: &mut B, strategy: &Strategy, step: Step)
 }
 
 // What a run of steps came to.
-#[derive(Clone, Copy)]
+#[derive(Clone, Copy, PartialEq, Eq, Debug)]
 pub struct Stepped {
     pub records: usize,
     // whether it ended because no step was possible, and not because the list was full

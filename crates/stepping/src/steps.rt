@@ -7,7 +7,7 @@ use pricing::NetPrice;
 use rules::{Execution, Order};
 
 // A buy and a sell that trade with each other, or an order that trades with the simple book, so much of it.
-#[derive(Clone, Copy)]
+#[derive(Clone, Copy, PartialEq, Eq, Debug)]
 pub enum Step {
     Pair {
         buy: Order,
@@ -22,7 +22,7 @@ pub enum Step {
 }
 
 impl Step {
-    // The number of the order that is legged.
+    // The number of the order that is legged; of a pair, that of its buy.
     pub(crate) fn number(&self) -> u32
         ensures { result ≡ number_in (told self.now) }
     {

@@ -1,5 +1,6 @@
 -- A row breaks no rule exactly where it is lawful.
-use Rattle.std.proofs.Common.{◌≡◌, ℕ, ◌≤◌, Bool, true, false, cond, leb, length, is_some, Some, None, Option, refl, ap, ◌∙◌, arith}
+use Rattle.std.proofs.Common.{◌≡◌, ℕ, ◌≤◌, min, Bool, true, false, cond, leb, length, is_some, Some, None, Option, refl, ap, ◌∙◌, arith}
+use Rattle.std.proofs.Math.Nat.{min-eq_left}
 use Rattle.std.proofs.lemmas.Bool.{leb-true, and_parts, both_ways, false≢true}
 use Rattle.refusals.specs.declared.reason.Reason.{Reason}
 use Rattle.refusals.specs.declared.reason.Reason.TheVariants.{LegCount, Series, Ratio}
@@ -24,18 +25,19 @@ row_stands r law =
     let ratios = ratios_only ls law.legs in
     rw (count, rising, ratios)
 
--- a row that breaks no rule is lawful, if it has as many legs as it counts
-pub row_lawful : (r : StrategyRow) → length (row_legs r) ≡ r.count → None ≡ row_fault r → LawfulRow r
+-- a row that breaks no rule is lawful: it has as many legs as it counts, since it counts no more than there are
+pub row_lawful : (r : StrategyRow) → length (row_legs r) ≡ min r.count most_legs → None ≡ row_fault r → LawfulRow r
 row_lawful r all h =
     let ls = row_legs r in
     let few = passed (count_lawful r.count) (cond (rising_from 0 ls) (cond (ratios_lawful ls) None (Some Ratio)) (Some Series)) LegCount h in
     let up = passed (rising_from 0 ls) (cond (ratios_lawful ls) None (Some Ratio)) Series few.1 in
     let fit = passed (ratios_lawful ls) None Ratio up.1 in
     let count = and_parts (leb fewest_legs r.count) (leb r.count most_legs) few.0 in
+    let most = leb-true r.count most_legs count.1 in
     record {
       fewest = leb-true fewest_legs r.count count.0;
-      most = leb-true r.count most_legs count.1;
-      legs = lawful_if ls (ap count_lawful all ∙ few.0) up.0 fit.0;
+      most = most;
+      legs = lawful_if ls (ap count_lawful (all ∙ min-eq_left most) ∙ few.0) up.0 fit.0;
     }
 
 -- an answer that names a rule
@@ -43,7 +45,7 @@ pub exactly_some : (r : StrategyRow) (why : Reason) → Some why ≡ row_fault r
 exactly_some r why h = (λ e. absurd (false≢true e), λ law. let z : Some why ≡ None = h ∙ row_stands r law in absurd (both_ways (is_some (Some why)) (ap is_some z) refl))
 
 -- an answer that names none
-pub exactly_none : (r : StrategyRow) → length (row_legs r) ≡ r.count → None ≡ row_fault r → Exactly (true ≡ true) (LawfulRow r)
+pub exactly_none : (r : StrategyRow) → length (row_legs r) ≡ min r.count most_legs → None ≡ row_fault r → Exactly (true ≡ true) (LawfulRow r)
 exactly_none r all h = (λ _. row_lawful r all h, λ _. refl)
 
 -- what each test says of the rule that is broken first

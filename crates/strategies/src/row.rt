@@ -1,5 +1,5 @@
 // Rows of legs, as they come, and the rule that one breaks.
-ghost use Rattle.std.specs.Prelude.{◌≡◌, ◌≤◌, true, length, is_ok};
+ghost use Rattle.std.specs.Prelude.{◌≡◌, true, min, length, is_ok};
 ghost use Rattle.std.specs.Result.{result_err};
 ghost use Rattle.strategies.specs.Limits.{most_legs};
 ghost use Rattle.strategies.specs.Lawful.{Exactly};
@@ -37,12 +37,11 @@ impl StrategyRow {
         Ok(())
     }
 
-    // The legs that the row counts.
-    pub(crate) fn counted(&self) -> &[Leg]
-        requires { self.now.count ≤ most_legs }
+    // The legs that the row counts, or all if it counts more.
+    pub fn counted(&self) -> &[Leg]
         ensures value { result.now ≡ row_legs self.now }
-        ensures all { length result.now ≡ self.now.count }
+        ensures all { length result.now ≡ min self.now.count most_legs }
     {
-        &self.legs[0..self.count as usize]
+        &self.legs[..LEG_PLACES.min(self.count as usize)]
     }
 }

@@ -1,28 +1,27 @@
 -- `display`: refused, or the price on the market that was read.
 use Rattle.std.proofs.Common.{◌≡◌, not, is_some, ◌∙◌, rules}
 use Rattle.std.specs.Option.{option_map}
+use Rattle.refusals.specs.declared.reason.Reason.TheVariants.{NotResting}
+use Rattle.refusals.specs.declared.station.Station.TheVariants.{Display}
+use Rattle.refusals.specs.Refusals.{refused_at}
 use Rattle.pricing.specs.Markets.{legs_of}
 use Rattle.pricing.specs.Display.{displayed}
+use Rattle.rules.specs.Orders.{order_with}
 use Rattle.engine.specs.Model.{model}
-use Rattle.engine.proofs.Dids.{err_so, ok_or_err, ok_or_ok}
-use Rattle.engine.proofs.Asked.{display_stopped, display_none, display_so}
+use Rattle.engine.proofs.Dids.{err_so, was_ready}
+use Rattle.engine.proofs.Asked.{display_refused, display_so}
 use Rattle.engine.proofs.held.Engine.display.Goals as goal
-
-pub returns-in_err-check_ready-clause-answer : goal.returns-in_err-check_ready-clause-answer
-returns-in_err-check_ready-clause-answer g c =
-    let why = c.in_err-check_ready.field-0.0 in
-    err_so c.from_residual.result why c.from_residual.ensures.1 ∙ display_stopped (model c.args.self.now) (g.B.SimpleBook.lots c.args.book.now) c.args.number why c.in_err-check_ready.ensures
 
 pub returns-in_err-order-clause-answer : goal.returns-in_err-order-clause-answer
 returns-in_err-order-clause-answer g c =
     let why = c.in_err-order.field-0.0 in
-    let found = ok_or_err c.order_with.result c.at.result why c.in_err-order.ensures.value in
-    err_so c.from_residual-in_err-order.result why c.from_residual-in_err-order.ensures.1
-    ∙ display_none (model c.args.self.now) (g.B.SimpleBook.lots c.args.book.now) c.args.number why c.in_ok-check_ready.ensures (found.0 ∙ c.order_with.ensures) (found.1 ∙ c.at.ensures)
+    err_so c.from_residual.result why c.from_residual.ensures.1 ∙ display_refused (model c.args.self.now) (g.B.SimpleBook.lots c.args.book.now) c.args.number why c.in_err-order.ensures.refusal
 
 pub returns-clause-answer : goal.returns-clause-answer
 returns-clause-answer g c =
+    let s = model c.args.self.now in
+    let n = c.args.number in
     let o = c.in_ok-order.order in
-    let found = ok_or_ok c.order_with.result c.at.result o c.in_ok-order.ensures.value in
+    let ready = was_ready s (order_with n s.orders) (refused_at Display NotResting) c.in_ok-order.ensures.refusal in
     let is : c.displayed_price.result ≡ displayed (option_map legs_of c.market_in-market.result) o.buy (not (is_some o.limit)) c.working_limit-limit.result = search rules in
-    display_so (model c.args.self.now) (g.B.SimpleBook.lots c.args.book.now) c.args.number o (option_map legs_of c.market_in-market.result) c.working_limit-limit.result c.displayed_price.result c.in_ok-check_ready.ensures (found ∙ c.order_with.ensures) c.market_in-market.ensures.answer c.working_limit-limit.ensures is
+    display_so s (g.B.SimpleBook.lots c.args.book.now) n o (option_map legs_of c.market_in-market.result) c.working_limit-limit.result c.displayed_price.result ready c.in_ok-order.ensures.order c.market_in-market.ensures.answer c.working_limit-limit.ensures is

@@ -8,6 +8,6 @@ pub returns : goal.returns
 returns c =
     let a = c.args.self.now in
     let b = c.args.other.now in
-    let mine = c.keys.ensures in
-    let others = c.keys-2.ensures in
+    let mine = c.key.ensures in
+    let others = c.key-2.ensures in
     c.lt.ensures ∙ rw (mine.strategy, mine.side, mine.limit, mine.number, others.strategy, others.side, others.limit, others.number) (ahead_so a.strategy b.strategy a.buy b.buy (limit_of a) (limit_of b) a.number b.number)
