@@ -1,5 +1,5 @@
 -- `display`: refused, or the price on the market that was read.
-use Rattle.std.proofs.Common.{◌≡◌, not, is_some, ◌∙◌, rules}
+use Rattle.std.proofs.Common.{◌≡◌, ◌∙◌, rules}
 use Rattle.std.specs.Option.{option_map}
 use Rattle.pricing.specs.Markets.{legs_of}
 use Rattle.pricing.specs.Display.{displayed}
@@ -24,5 +24,5 @@ pub returns-clause-answer : goal.returns-clause-answer
 returns-clause-answer g c =
     let o = c.in_ok-order.order in
     let found = ok_or_ok c.order_with.result c.at.result o c.in_ok-order.ensures.value in
-    let is : c.displayed_price.result ≡ displayed (option_map legs_of c.market_in-market.result) o.buy (not (is_some o.limit)) c.working_limit-limit.result = search rules in
-    display_so (model c.args.self.now) (g.B.SimpleBook.lots c.args.book.now) c.args.number o (option_map legs_of c.market_in-market.result) c.working_limit-limit.result c.displayed_price.result c.in_ok-check_ready.ensures (found ∙ c.order_with.ensures) c.market_in-market.ensures.answer c.working_limit-limit.ensures is
+    let is : c.displayed_price.result ≡ displayed (option_map legs_of c.market_in-market.result) o.buy o.limit c.working_limit.result = search rules in
+    display_so (model c.args.self.now) (g.B.SimpleBook.lots c.args.book.now) c.args.number o (option_map legs_of c.market_in-market.result) c.working_limit.result c.displayed_price.result c.in_ok-check_ready.ensures (found ∙ c.order_with.ensures) c.market_in-market.ensures.answer c.working_limit.ensures is
