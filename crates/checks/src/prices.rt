@@ -142,12 +142,17 @@ fn an_order_is_legged_as_far_as_the_bests_go(rt: HostRuntime) -> Result<(), Fail
     Ok(())
 }
 
+// What an order with a limit shows.
+fn shown(market: Option<StrategyMarket>, buy: bool, limit: i64) -> Option<i64> {
+    displayed_price(market, buy, Some(limit), limit)
+}
+
 #[test]
 fn an_order_shows_what_it_can_trade_at(rt: HostRuntime) {
-    assert_eq!(rt; displayed_price(market(false), true, false, 195), Some(190));
-    assert_eq!(rt; displayed_price(market(false), true, false, 189), Some(189));
-    assert_eq!(rt; displayed_price(market(true), true, false, 190), Some(189));
-    assert_eq!(rt; displayed_price(market(true), false, false, 170), Some(175));
+    assert_eq!(rt; shown(market(false), true, 195), Some(190));
+    assert_eq!(rt; shown(market(false), true, 189), Some(189));
+    assert_eq!(rt; shown(market(true), true, 190), Some(189));
+    assert_eq!(rt; shown(market(true), false, 170), Some(175));
 }
 
 #[test]
@@ -156,10 +161,10 @@ fn a_market_order_shows_nothing_while_a_leg_is_missing(rt: HostRuntime) -> Resul
     let _ = board.quote(11, Side::Offer, lot(false, 125, 0));
     let strategy = spread(1, 1)?;
     let missing = market_of(&mut board, &strategy);
-    assert_eq!(rt; displayed_price(missing, true, true, 40_000_000), None);
-    assert_eq!(rt; displayed_price(missing, true, false, 195), Some(195));
+    assert_eq!(rt; displayed_price(missing, true, None, 40_000_000), None);
+    assert_eq!(rt; shown(missing, true, 195), Some(195));
     assert_eq!(rt;
-        displayed_price(market(false), true, true, 40_000_000),
+        displayed_price(market(false), true, None, 40_000_000),
         Some(190)
     );
     Ok(())

@@ -47,9 +47,9 @@ module _ (s : State) (b : Lots) (n : ℕ) where
   unfolding net_answer
   net_so legs r e some is = ap Ok is ∙ ap (net_on b) some ∙ up s.ready net e
 
-  pub display_so : (o : Order) (ms : Option (List LegMarket)) (limit : ℤ) (r : Option ℤ) → None ≡ memory_test s → Some o ≡ order_with n s.orders → ms ≡ markets_in b (strategy_at s.strategies o.strategy) → limit ≡ limit_of o → r ≡ displayed ms o.buy (not (is_some o.limit)) limit → Ok r ≡ display_answer s b n
+  pub display_so : (o : Order) (ms : Option (List LegMarket)) (limit : ℤ) (r : Option ℤ) → None ≡ memory_test s → Some o ≡ order_with n s.orders → ms ≡ markets_in b (strategy_at s.strategies o.strategy) → limit ≡ limit_of o → r ≡ displayed ms o.buy o.limit limit → Ok r ≡ display_answer s b n
   unfolding display_answer
   display_so o ms limit r e some market at is =
-      ap Ok (is ∙ ap (λ ms. displayed ms o.buy (not (is_some o.limit)) limit) market ∙ ap (displayed (markets_in b (strategy_at s.strategies o.strategy)) o.buy (not (is_some o.limit))) at)
+      ap Ok (is ∙ ap (λ ms. displayed ms o.buy o.limit limit) market ∙ ap (displayed (markets_in b (strategy_at s.strategies o.strategy)) o.buy o.limit) at)
       ∙ ap (display_of s b) some
       ∙ up s.ready shown e

@@ -46,8 +46,7 @@ impl<'a> Engine<'a> {
     {
         let order = self.resting(Station::Display, number)?;
         let market = self.market_in(book, order.strategy);
-        let limit = order.working_limit();
-        Ok(displayed_price(market, order.buy, order.limit.is_none(), limit))
+        Ok(displayed_price(market, order.buy, order.limit, order.working_limit()))
     }
 
     // The order at a place, in rank; nothing on memory of other places.

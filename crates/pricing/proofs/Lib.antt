@@ -1,5 +1,6 @@
 pub mod Soundness
 pub mod Split
+pub mod Sums
 pub mod Pricing
 pub mod Search
 pub mod Trades

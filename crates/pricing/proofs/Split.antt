@@ -1,10 +1,8 @@
 -- One leg after another: the definitions over the legs from a place on.
-use Rattle.std.proofs.Common.{◌≡◌, ℕ, ◌+◌, ◌*◌, ◌/◌, ◌<◌, ◌≤◌, Bool, true, false, ◌||◌, List, [], ◌∷◌, ◌++◌, length, get_or, take, drop, set, pos, ◌+ℤ◌, refl, ap, append_assoc, le_trans, mul-le-mul_left, arith}
+use Rattle.std.proofs.Common.{◌≡◌, ℕ, ◌+◌, ◌*◌, ◌/◌, ◌<◌, ◌≤◌, false, ◌||◌, List, [], ◌∷◌, ◌++◌, length, get_or, take, drop, set, ap, append_assoc, le_trans, mul-le-mul_left, arith}
 use native.Mathlib.Nat.{mul-div-le}
 use Rattle.std.proofs.lemmas.List.{drop_more, take_more_set}
 use Rattle.pricing.specs.declared.market.LegMarket.{LegMarket}
-use Rattle.pricing.specs.Legs.{bid_part, offer_part, part_taken, net_bid, net_offer}
-use Rattle.pricing.specs.Legging.{net_taken}
 use Rattle.pricing.specs.Prices.{cents, price_at, left, rest_after, by_leg, at_customer, between, matched, improved}
 
 pub cents_fit : (m : LegMarket) (rest : ℕ) → m.ratio * cents m rest ≤ rest
@@ -13,12 +11,6 @@ cents_fit m rest = let h : cents m rest ≤ rest / m.ratio = omega arith in le_t
 -- the leg at a place
 abbrev pub leg_at : List LegMarket → ℕ → LegMarket
 leg_at ms i = get_or ms i (record { bought = false; ratio = 0; bid = record { price = 0; size = 0; customer = 0 }; offer = record { price = 0; size = 0; customer = 0 } })
-
--- no legs add nothing
-pub net_none : (buy : Bool) → net_taken [] buy ≡ pos 0
-unfolding net_bid net_offer
-net_none true = refl
-net_none false = refl
 
 module _ (ms : List LegMarket) (i : ℕ) (h : i < length ms) where
   abbrev m : LegMarket
@@ -43,15 +35,3 @@ module _ (ms : List LegMarket) (i : ℕ) (h : i < length ms) where
 
   pub improved_more : (rest : ℕ) → improved (drop i ms) (by_leg (drop i ms) rest) ≡ (between m (price_at m (cents m rest)) || improved (drop (i + 1) ms) (by_leg (drop (i + 1) ms) (left m rest)))
   improved_more rest = ap (λ (ys : List LegMarket). improved ys (by_leg ys rest)) leg_split
-
-  pub bid_more : net_bid (drop i ms) ≡ bid_part m +ℤ net_bid (drop (i + 1) ms)
-  unfolding net_bid
-  bid_more = rw leg_split
-
-  pub offer_more : net_offer (drop i ms) ≡ offer_part m +ℤ net_offer (drop (i + 1) ms)
-  unfolding net_offer
-  offer_more = rw leg_split
-
-  pub net_more : (buy : Bool) → net_taken (drop i ms) buy ≡ part_taken buy m +ℤ net_taken (drop (i + 1) ms) buy
-  net_more true = offer_more
-  net_more false = bid_more

@@ -24,7 +24,8 @@ shown ms buy limit =
     (cond (meets_customer ms buy) (a_cent_off buy (net_taken ms buy)) (net_taken ms buy))
     limit
 
--- while the strategy is not free a limit order shows its limit, and a market order nothing
-abbrev pub displayed : Option (List LegMarket) → Bool → Bool → ℤ → Option ℤ
-displayed None buy market limit = cond market None (Some limit)
-displayed (Some ms) buy market limit = Some (shown ms buy limit)
+-- an order placed with a limit, or with none (a market order): while the strategy is not free it shows that limit, or nothing,
+-- on a free one what its working limit shows
+abbrev pub displayed : Option (List LegMarket) → Bool → Option ℤ → ℤ → Option ℤ
+displayed None buy limit working = limit
+displayed (Some ms) buy limit working = Some (shown ms buy working)

@@ -29,19 +29,18 @@ impl StrategyMarket {
     }
 }
 
-// The price that an order shows on a market, or on none while the strategy is not free.
-// A flag, and no `Option` of the limit, is plainer: a market order has a limit too, and shows by it on a free strategy.
+// The price that an order shows: by its working limit on a market; on none, as the strategy is not free,
+// the limit that it was placed with, which a market order has not.
 pub fn displayed_price(
     market: Option<StrategyMarket>,
     buy: bool,
-    is_market: bool,
-    limit: i64,
+    limit: Option<i64>,
+    working_limit: i64,
 ) -> Option<i64>
-    ensures { result ≡ displayed (option_map legs_of market) buy is_market limit }
+    ensures { result ≡ displayed (option_map legs_of market) buy limit working_limit }
 {
     match market {
-        Some(market) => Some(market.shown(buy, limit)),
-        None if is_market => None,
-        None => Some(limit),
+        Some(market) => Some(market.shown(buy, working_limit)),
+        None => limit,
     }
 }

@@ -23,7 +23,7 @@ impl StrategyMarket {
     {
         let legs = self.legs();
         let mut prices = [0; 4];
-        // by place: the proofs of `array::from_fn(|i| legs.get(i).map_or(0, ..))` and of `prices.iter_mut().zip(legs)` did not close
+        // by place: tried, the proofs of `array::from_fn(|i| legs.get(i).map_or(0, ..))` and of `prices[..].iter_mut().zip(legs)` did not close
         for (i, leg) in legs.iter().enumerate() {
             prices[i] = leg.taken(buy).price;
         }

@@ -22,12 +22,7 @@ impl StrategyMarket {
         ensures value { result ≡ net_taken (legs_of self.now) buy }
         ensures reach { (neg_ℤ (pos 32000000) ≤ℤ result) × (result ≤ℤ pos 32000000) }
     {
-        let legs = self.legs();
-        let mut net: i64 = 0;
-        for leg in legs {
-            net += leg.part_taken(buy);
-        }
-        net
+        self.legs().iter().map(|leg| leg.part_taken(buy)).sum()
     }
 
     // The net bid and the net offer, within 32,000,000 either way.

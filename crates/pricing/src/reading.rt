@@ -53,7 +53,7 @@ fn read_legs<B: SimpleBook>(book: &mut B, legs: &[Leg]) -> Option<StrategyMarket
     ensures frame { B.SimpleBook.frame book.new ≡ B.SimpleBook.frame book.old }
 {
     let mut four = [NO_LEG; LEG_PLACES];
-    // by place: the proof of `four.iter_mut().zip(legs)` did not close, as nothing is known of an array after an adapter of its iter_mut
+    // by place: tried, the proof of `four.iter_mut().zip(legs)` did not close: of what its iter_mut wrote, a zip tells nothing, in an array or a slice
     for (i, leg) in legs.iter().enumerate() {
         four[i] = leg_market(book, *leg)?;
     }

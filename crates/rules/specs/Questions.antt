@@ -1,5 +1,5 @@
 -- The two questions: net market and display. They change nothing.
-use Rattle.std.specs.Prelude.{ℕ, cond, not, List, ℤ, is_some, Some, None, Ok, Err, Option, Result}
+use Rattle.std.specs.Prelude.{ℕ, cond, List, ℤ, Some, None, Ok, Err, Option, Result}
 use Rattle.refusals.specs.declared.reason.Reason.TheVariants.{Memory, Strategy, NotResting}
 use Rattle.refusals.specs.declared.station.Station.TheVariants.{Opening, Net, Display}
 use Rattle.refusals.specs.declared.refusal.Refusal.{Refusal}
@@ -27,7 +27,7 @@ markets_in b (Some legs) = markets_of b legs
 
 abbrev pub display_of : State → Lots → Option Order → Result (Option ℤ) Refusal
 display_of s b None = Err (refused_at Display NotResting)
-display_of s b (Some o) = Ok (displayed (markets_in b (strategy_at s.strategies o.strategy)) o.buy (not (is_some o.limit)) (limit_of o))
+display_of s b (Some o) = Ok (displayed (markets_in b (strategy_at s.strategies o.strategy)) o.buy o.limit (limit_of o))
 
 -- what an order shows: the memory, then whether the order rests
 unfoldable pub display_answer : State → Lots → ℕ → Result (Option ℤ) Refusal

@@ -1,5 +1,5 @@
 -- `display`: refused, or the price on the market that was read.
-use Rattle.std.proofs.Common.{◌≡◌, not, is_some, ◌∙◌, rules}
+use Rattle.std.proofs.Common.{◌≡◌, ◌∙◌, rules}
 use Rattle.std.specs.Option.{option_map}
 use Rattle.refusals.specs.declared.reason.Reason.TheVariants.{NotResting}
 use Rattle.refusals.specs.declared.station.Station.TheVariants.{Display}
@@ -23,5 +23,5 @@ returns-clause-answer g c =
     let n = c.args.number in
     let o = c.in_ok-order.order in
     let ready = was_ready s (order_with n s.orders) (refused_at Display NotResting) c.in_ok-order.ensures.refusal in
-    let is : c.displayed_price.result ≡ displayed (option_map legs_of c.market_in-market.result) o.buy (not (is_some o.limit)) c.working_limit-limit.result = search rules in
-    display_so s (g.B.SimpleBook.lots c.args.book.now) n o (option_map legs_of c.market_in-market.result) c.working_limit-limit.result c.displayed_price.result ready c.in_ok-order.ensures.order c.market_in-market.ensures.answer c.working_limit-limit.ensures is
+    let is : c.displayed_price.result ≡ displayed (option_map legs_of c.market_in-market.result) o.buy o.limit c.working_limit.result = search rules in
+    display_so s (g.B.SimpleBook.lots c.args.book.now) n o (option_map legs_of c.market_in-market.result) c.working_limit.result c.displayed_price.result ready c.in_ok-order.ensures.order c.market_in-market.ensures.answer c.working_limit.ensures is
