@@ -28,6 +28,7 @@ impl BitReader<'_> {
         let first = self.at / 8;
         let last = end.div_ceil(8);
         let mut window: u64 = 0;
+        // a `for`: tried, the proof of `iter().fold(0, ..)` over the bytes did not close
         for byte in &self.bytes[first..last] {
             window = window << 8 | *byte as u64;
         }
