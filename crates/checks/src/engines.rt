@@ -25,14 +25,6 @@ const MARK: Execution = Execution {
 // A message that places an order.
 const PLACING: [u8; 14] = [0x21, 0, 0, 0, 0, 0, 0x10, 0, 16, 0, 0, 0, 0, 0];
 
-// Why a call was refused, if it was.
-fn why<T: Copy>(answer: Result<T, Refusal>) -> Option<Refusal> {
-    match answer {
-        Ok(_) => None,
-        Err(refusal) => Some(refusal),
-    }
-}
-
 // Why the call of a message was refused, if it was.
 fn why_not_taken_in(answer: Result<Intake, IntakeFault>) -> Option<Refusal> {
     match answer {
@@ -99,11 +91,11 @@ fn check_not_opened(rt: &impl Abort, memory: &mut [Order]) {
     let mut board = quoted();
     let mut list = [MARK; 1];
     let mut engine = Engine::open(memory);
-    assert_eq!(rt; why(engine.define(2, &legs(10, 11))), opening);
+    assert_eq!(rt; engine.define(2, &legs(10, 11)).err(), opening);
     let buy = order(OrderSide::Buy, 185, TimeInForce::Day);
-    assert_eq!(rt; why(engine.place(&mut board, &mut list, buy)), opening);
-    assert_eq!(rt; why(engine.cancel(1)), opening);
-    assert_eq!(rt; why(engine.evaluate(&mut board, &mut list, 0)), opening);
+    assert_eq!(rt; engine.place(&mut board, &mut list, buy).err(), opening);
+    assert_eq!(rt; engine.cancel(1).err(), opening);
+    assert_eq!(rt; engine.evaluate(&mut board, &mut list, 0).err(), opening);
     assert_eq!(rt;
         why_not_taken_in(engine.intake(&mut board, &mut list, &PLACING)),
         opening
@@ -112,8 +104,8 @@ fn check_not_opened(rt: &impl Abort, memory: &mut [Order]) {
         why_not_taken_in(engine.intake(&mut board, &mut list, &[0x21; 13])),
         opening
     );
-    assert_eq!(rt; why(engine.net_market(&mut board, 0)), opening);
-    assert_eq!(rt; why(engine.display(&mut board, 1)), opening);
+    assert_eq!(rt; engine.net_market(&mut board, 0).err(), opening);
+    assert_eq!(rt; engine.display(&mut board, 1).err(), opening);
     assert!(rt; engine.order_at(0).is_none());
 }
 
@@ -128,7 +120,7 @@ fn an_engine_needs_its_memory(rt: HostRuntime) {
 fn check_not_posted(rt: &impl Abort, memory: &mut [PostedLot]) {
     let mut depth = DepthBook::open(memory);
     assert_eq!(rt;
-        why(depth.post(3, Side::Offer, lot(false, 100, 10))),
+        depth.post(3, Side::Offer, lot(false, 100, 10)).err(),
         refused(Station::Opening, Reason::Memory)
     );
 }
@@ -150,11 +142,11 @@ fn a_table_holds_64_strategies(rt: HostRuntime) {
         }
     }
     assert_eq!(rt;
-        why(engine.define(2, &legs(8, 16))),
+        engine.define(2, &legs(8, 16)).err(),
         refused(Station::Define, Reason::TableFull)
     );
     assert_eq!(rt;
-        why(engine.define(2, &legs(7, 15))),
+        engine.define(2, &legs(7, 15)).err(),
         refused(Station::Define, Reason::SameLegs)
     );
 }
@@ -170,7 +162,7 @@ fn an_engine_holds_512_orders(rt: HostRuntime) {
         assert!(rt; engine.place(&mut board, &mut [], buy).is_ok());
     }
     assert_eq!(rt;
-        why(engine.place(&mut board, &mut [], buy)),
+        engine.place(&mut board, &mut [], buy).err(),
         refused(Station::Place, Reason::BookFull)
     );
     assert!(rt; engine.cancel(7).is_ok());
@@ -188,7 +180,7 @@ fn an_engine_numbers_a_million_orders(rt: HostRuntime) {
         assert!(rt; engine.place(&mut board, &mut [], buy).is_ok());
     }
     assert_eq!(rt;
-        why(engine.place(&mut board, &mut [], buy)),
+        engine.place(&mut board, &mut [], buy).err(),
         refused(Station::Place, Reason::NumbersSpent)
     );
 }
@@ -202,7 +194,7 @@ fn a_depth_book_numbers_a_million_lots(rt: HostRuntime) -> Result<(), Fail> {
         assert!(rt; depth.withdraw(number).is_ok());
     }
     assert_eq!(rt;
-        why(depth.post(3, Side::Offer, lot(false, 100, 10))),
+        depth.post(3, Side::Offer, lot(false, 100, 10)).err(),
         refused(Station::Post, Reason::LotNumbersSpent)
     );
     Ok(())

@@ -6,7 +6,7 @@ ghost use Rattle.contents.specs.Faults.{reader_fault, reader_refusal, writer_ref
 
 use refusals::{Reason, Refusal, Station};
 
-// Why bytes are no message: the reason and, where it is a field's, the bit place (else 0).
+// Why bytes are no message: the reason and, where it is a field's, the bit place (else 0, as in a refusal).
 #[derive(Clone, Copy, PartialEq, Eq, Debug)]
 pub struct ReaderFault {
     pub reason: Reason,

@@ -1,4 +1,5 @@
-//! The lots of one side of one series, which stand together among all lots.
+//! The lots of one side of one series, which stand together among all lots. A series and a side come as two parameters, as every
+//! simple book is asked for them, and that the lots stand in rank is asked where it is needed: the list itself promises no rank.
 
 ghost use Rattle.std.specs.Prelude.{◌≡◌, ◌+◌, ◌≤◌, length};
 ghost use Rattle.simple.specs.Limits.{side_limit};

@@ -14,7 +14,7 @@ use rules::{Execution, Intake, IntakeFault, NewOrder};
 use simple::SimpleBook;
 use strategies::Leg;
 
-// The order that the fields of a message say; the reader lets no time in force through that has no code.
+// The order that the fields of a message say; the reader lets no time in force through that has no code. No `From`, as for a leg.
 fn order_of(fields: PlaceFields) -> NewOrder
     requires { NarrowOrder fields }
     ensures { result ≡ order_said fields }

@@ -9,10 +9,9 @@ use std::alloc::{AllocError, Global};
 fn time_text(code: u64) -> &'static str
     ensures { result.now ≡ time_text code }
 {
-    if code == u64::from(TimeInForce::Day) {
-        "day"
-    } else {
-        "ioc"
+    match TimeInForce::try_from(code) {
+        Ok(TimeInForce::Day) => "day",
+        _ => "ioc",
     }
 }
 

@@ -57,6 +57,7 @@ impl BitReader<'_> {
         ensures passed { Passed self.old self.new 15 (leg_layout within self.old.at) }
     {
         let place = self.at as u32;
+        // a side is one bit, so each value says one: no conversion that could fail
         LegFields {
             series: self.part(10, most(within, 10), place),
             side: match self.part(1, most(within, 1), place) {

@@ -15,5 +15,6 @@ pub struct LegMarket {
 #[derive(Clone, Copy, PartialEq, Eq, Debug)]
 pub struct NetPrice {
     pub price: i64,
+    // zeros and no Option, as in the record of an execution, into which they go
     pub legs: [u32; 4],
 }

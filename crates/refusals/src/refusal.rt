@@ -9,6 +9,7 @@ use std::error::Error;
 use std::fmt;
 
 // A refusal: its station, its reason and, for a message's field, the field's bit place (else 0).
+// The 0 is no Option: it is what every other refusal answers as its bit.
 #[derive(Clone, Copy, PartialEq, Eq, Debug)]
 pub struct Refusal {
     pub station: Station,

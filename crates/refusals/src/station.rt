@@ -25,7 +25,7 @@ pub enum Station {
 }
 
 impl Station {
-    // The station's name as programs print it.
+    // The station's name as programs print it: no derive gives a name in small letters.
     pub fn name(self) -> &'static str
         ensures { result.now ≡ name_of self }
     {

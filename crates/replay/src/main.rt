@@ -22,7 +22,8 @@ use boards::QuoteBoard;
 use depth::DepthBook;
 use holds::HoldLayer;
 
-// The lines before the first session; answers the kind of its book.
+// The lines before the first session; answers the kind of its book. Beside `session`, whose answers need a layer that each line
+// moves: one loop for both would be longer.
 fn unopened(rt: &HostRuntime, input: &mut Input) -> anyhow::Result<Option<Kind>> {
     // a count bounds the loop: a `for` over the input would hold it, and an answer that is printed may mark it
     for _ in 0..u64::MAX {

@@ -20,7 +20,8 @@ pub fn error_line(heap: Global, line: u64, reason: &str) -> Result<String, Alloc
     format!(in heap; "error line {line}: {reason}")
 }
 
-// What a refusal says: its station, its number and, for a field, the bit place.
+// What a refusal says: its station, its number and, for a field, the bit place. Beside `to_string`, so that what programs print of
+// a line is named in one crate.
 pub fn refusal_text(heap: Global, refusal: &Refusal) -> Result<String, AllocError>
     ensures { IfOk result (λ t. string_bytes t ≡ refusal_text refusal.now) }
 {
