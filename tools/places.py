@@ -107,7 +107,7 @@ def bodies():
 
 
 def shape(text):
-    """A function's text without its own names, numbers and texts: a field or a function called stays, one bound in it does not."""
+    """A function's text without its names, numbers and texts."""
     out = []
     for t in re.findall(r"b?\"[^\"]*\"|b?'[^']'|[A-Za-z_]\w*|\d[\d_]*|\S", text):
         if t[0] in "\"'" or t[:2] in ("b\"", "b'"):
@@ -166,6 +166,21 @@ def point_8():
     return out
 
 
+# the points whose places are found otherwise than line by line
+LISTS = {
+    2: ("groups of functions of one shape", point_2),
+    5: ("facts and parameters that three functions share", point_5),
+    8: ("answers", point_8),
+}
+
+
+def report(point, what, rows, show):
+    """How many places there are, and the places where they are asked for."""
+    print(f"{point} {what}: {len(rows)}")
+    if show:
+        print("\n".join("    " + r for r in rows))
+
+
 def main():
     points = [int(a) for a in sys.argv[1:] if a.isdigit()] or [1, 2, 3, 4, 5, 6, 7, 8]
     show = "--list" in sys.argv
@@ -173,24 +188,10 @@ def main():
         if p in LINES:
             for what, pattern in LINES[p]:
                 rows = [f"{path}:{n}: {line.strip()}" for path, lines in sources() for n, line in code(lines) if re.search(pattern, line)]
-                print(f"{p} {what}: {len(rows)}")
-                if show:
-                    print("\n".join("    " + r for r in rows))
-        elif p == 2:
-            rows = point_2()
-            print(f"2 groups of functions of one shape: {len(rows)}")
-            if show:
-                print("\n".join("    " + r for r in rows))
-        elif p == 5:
-            rows = point_5()
-            print(f"5 facts and parameters that three functions share: {len(rows)}")
-            if show:
-                print("\n".join("    " + r for r in rows))
-        elif p == 8:
-            rows = point_8()
-            print(f"8 answers: {len(rows)}")
-            if show:
-                print("\n".join("    " + r for r in rows))
+                report(p, what, rows, show)
+        else:
+            what, find = LISTS[p]
+            report(p, what, find(), show)
 
 
 main()
