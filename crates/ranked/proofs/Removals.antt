@@ -1,11 +1,13 @@
 -- What it does to a list to take an entry out.
-use Rattle.std.proofs.Common.{◌≡◌, ℕ, zero, suc, ◌≤◌, Bool, true, false, not, eqb, ◌++◌, List, [], ◌∷◌, take, drop, Some, sym, ap, ◌∙◌, subst, arith}
+use Rattle.std.proofs.Common.{◌≡◌, ℕ, zero, suc, ◌+◌, ◌-◌, ◌≤◌, Bool, true, false, not, eqb, ◌++◌, List, [], ◌∷◌, take, drop, Some, sym, ap, ◌∙◌, subst, arith}
 use Rattle.std.specs.List.{slice_get, remove, AllByRecursion}
 use Rattle.std.specs.List.Sorted.{IsPermutation}
 use Rattle.std.proofs.ByRecursion.{All-weaker, All-append, All-take, All-drop}
-use Rattle.std.proofs.lemmas.List.Sorted.{IsPermutation-refl, IsPermutation-cons, IsPermutation-trans}
+use Rattle.std.proofs.lemmas.List.Sorted.{IsPermutation-refl, IsPermutation-cons, IsPermutation-trans, IsPermutation-append_left, IsPermutation-append_comm}
+use Rattle.std.proofs.lemmas.List.{take-append-drop, append_assoc}
+use Rattle.std.proofs.Math.Seq.{take-add}
 use Rattle.std.proofs.lemmas.Bool.{cond-true, cond-false, eq-eqb, ne_eqb}
-use Rattle.ranked.specs.Ranking.{without, Pairwise, Distinct}
+use Rattle.ranked.specs.Ranking.{range_of, without, Pairwise, Distinct}
 use Rattle.ranked.specs.Laws.{LawfulRemoval, LawfulRangeRemoval}
 use Rattle.ranked.proofs.Lists.{kept_all, all_nth, swap_first}
 
@@ -62,8 +64,20 @@ module _ {X : Type 0} (R : X → X → Type 0) where
   closed_pairwise (x ∷ xs) (suc i) (suc j) le p =
       (All-append (R x) (take i xs) (drop j xs) (All-take (R x) i xs p.0) (All-drop (R x) j xs p.0), closed_pairwise xs i j (omega arith) p.1)
 
-pub lawful_range_removal : {X : Type 0} (ahead : X → X → Bool) (serial : X → ℕ) (xs : List X) (i j : ℕ) → i ≤ j → LawfulRangeRemoval ahead serial xs (take i xs ++ drop j xs)
+-- they are those of the range, and nothing else
+closed_keeps : {X : Type 0} (xs : List X) (i j : ℕ) → i ≤ j → IsPermutation (range_of i j xs ++ (take i xs ++ drop j xs)) xs
+closed_keeps {X} xs i j le =
+    let out = range_of i j xs in
+    let all : i + (j - i) ≡ j = omega arith in
+    let front : take i xs ++ out ≡ take j xs = sym (take-add i (j - i) xs) ∙ ap (λ k. take k xs) all in
+    let whole : (take i xs ++ out) ++ drop j xs ≡ xs = ap (λ ys. ys ++ drop j xs) front ∙ take-append-drop j xs in
+    subst (λ (ys : List X). IsPermutation ys xs) (append_assoc out (take i xs) (drop j xs))
+    (subst (λ (ys : List X). IsPermutation ((out ++ take i xs) ++ drop j xs) ys) whole
+    (IsPermutation-append_left (drop j xs) (out ++ take i xs) (take i xs ++ out) (IsPermutation-append_comm out (take i xs))))
+
+pub lawful_range_removal : {X : Type 0} (ahead : X → X → Bool) (serial : X → ℕ) (xs : List X) (i j : ℕ) → i ≤ j → LawfulRangeRemoval ahead serial xs (range_of i j xs) (take i xs ++ drop j xs)
 lawful_range_removal ahead serial xs i j le = record {
   sorted = closed_pairwise (λ x y. ahead x y ≡ true) xs i j le;
   distinct = closed_pairwise (λ x y. serial x ≡ serial y → ⊥) xs i j le;
+  keeps = closed_keeps xs i j le;
 }

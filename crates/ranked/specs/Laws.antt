@@ -27,12 +27,14 @@ pub record LawfulRemoval {X : Type 0} (ahead : X → X → Bool) (serial : X →
   -- the other entries are kept
   pub keeps : IsPermutation (option_to_list r ++ ys) xs
 
--- the entries of a range of places were taken out
-pub record LawfulRangeRemoval {X : Type 0} (ahead : X → X → Bool) (serial : X → ℕ) (xs ys : List X) : Type 0 where
+-- the entries of a range of places, those in out, were taken out
+pub record LawfulRangeRemoval {X : Type 0} (ahead : X → X → Bool) (serial : X → ℕ) (xs out ys : List X) : Type 0 where
   -- a sorted list stays sorted
   pub sorted : Sorted ahead xs → Sorted ahead ys
   -- distinct numbers stay distinct
   pub distinct : Distinct serial xs → Distinct serial ys
+  -- the other entries are kept
+  pub keeps : IsPermutation (out ++ ys) xs
 
 -- e was put in the place of the entry in r, or there was none
 pub record LawfulReplacement {X : Type 0} (ahead : X → X → Bool) (serial : X → ℕ) (e : X) (xs : List X) (r : Option X) (ys : List X) : Type 0 where

@@ -1,5 +1,5 @@
 -- Lists of entries in rank. `ahead x y` says that x stands before y, and `serial x` is the number of x.
-use Rattle.std.specs.Prelude.{◌≡◌, ℕ, suc, Bool, true, cond, not, List, [], ◌∷◌, ◌++◌, Some, None, filter, Option, ◌==◌, nat_lt, take, drop, ◌≢◌}
+use Rattle.std.specs.Prelude.{◌≡◌, ℕ, ◌-◌, suc, Bool, true, cond, not, List, [], ◌∷◌, ◌++◌, Some, None, filter, Option, ◌==◌, nat_lt, take, drop, ◌≢◌}
 use Rattle.std.specs.List.{slice_get, prefix_len, AllByRecursion}
 use Rattle.std.specs.Option.{option_map}
 
@@ -24,6 +24,10 @@ parted_by ahead e xs = filter (λ x. ahead x e) xs ++ e ∷ filter (λ x. not (a
 -- the entries that do not have the number
 abbrev pub without : {X : Type 0} → (X → ℕ) → ℕ → List X → List X
 without serial n xs = filter (λ x. not (serial x == n)) xs
+
+-- the entries from one place up to another
+abbrev pub range_of : {X : Type 0} → ℕ → ℕ → List X → List X
+range_of first end xs = take (end - first) (drop first xs)
 
 -- the entries but those from one place up to another
 abbrev pub without_range : {X : Type 0} → ℕ → ℕ → List X → List X

@@ -2,7 +2,7 @@
 
 ghost use Rattle.std.specs.Prelude.{◌≡◌, ◌+◌, ◌^◌, ◌<◌, ◌≤◌, true, [], length, take, is_some, if◌then◌else◌, MatchOption, nat_lt, slice_set};
 ghost use Rattle.std.specs.List.{slice_get, remove};
-ghost use Rattle.ranked.specs.Ranking.{place_with, ranked_insert, without_range, Absent, Standing};
+ghost use Rattle.ranked.specs.Ranking.{place_with, ranked_insert, range_of, without_range, Absent, Standing};
 ghost use Rattle.ranked.specs.Held.{items, room};
 ghost use Rattle.ranked.specs.Laws.{LawfulInsertion, LawfulRemoval, LawfulRangeRemoval, LawfulReplacement};
 
@@ -110,7 +110,7 @@ impl<'a, E: Ranked> RankedList<'a, E> {
     pub fn remove_range(&mut self, places: Range<usize>)
         ensures items { items self.new ≡ without_range places.start places.end (items self.old) }
         ensures room { room self.new ≡ room self.old }
-        ensures laws { LawfulRangeRemoval E.ahead E.serial (items self.old) (items self.new) }
+        ensures laws { LawfulRangeRemoval E.ahead E.serial (items self.old) (range_of places.start places.end (items self.old)) (items self.new) }
     {
         let n = self.len();
         let end = places.end.min(n);

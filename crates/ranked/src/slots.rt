@@ -2,7 +2,7 @@
 
 ghost use Rattle.std.specs.Prelude.{◌≡◌, ◌+◌, ◌-◌, ◌<◌, ◌≤◌, ◌++◌, true, length, take, drop, is_some, if◌then◌else◌, Some, MatchOption, nat_lt, slice_set};
 ghost use Rattle.std.specs.List.{slice_get, remove};
-ghost use Rattle.ranked.specs.Ranking.{place_of, place_with, ranked_insert, Absent, Standing};
+ghost use Rattle.ranked.specs.Ranking.{place_of, place_with, ranked_insert, range_of, Absent, Standing};
 ghost use Rattle.ranked.specs.Laws.{LawfulInsertion, LawfulRemoval, LawfulRangeRemoval, LawfulReplacement};
 
 use crate::rank::Ranked;
@@ -64,7 +64,7 @@ pub(crate) fn take_out<E: Ranked>(slots: &mut [E], n: usize, place: usize) -> E
 pub(crate) fn take_range<E: Ranked>(slots: &mut [E], n: usize, first: usize, end: usize)
     requires { (first ≤ end) × (end ≤ n) × (n ≤ length slots.old) }
     ensures after { take (n - (end - first)) slots.new ≡ take first (take n slots.old) ++ drop end (take n slots.old) }
-    ensures laws { LawfulRangeRemoval E.ahead E.serial (take n slots.old) (take (n - (end - first)) slots.new) }
+    ensures laws { LawfulRangeRemoval E.ahead E.serial (take n slots.old) (range_of first end (take n slots.old)) (take (n - (end - first)) slots.new) }
 {
     slots.copy_within(end..n, first);
 }

@@ -1,6 +1,7 @@
 -- `take_range`: the entries behind the range stand where it began.
 use Rattle.std.proofs.Common.{◌≡◌, ◌+◌, ◌-◌, List, ◌++◌, take, drop, sym, ap, ◌∙◌, subst, arith}
 use Rattle.ranked.specs.Laws.{LawfulRangeRemoval}
+use Rattle.ranked.specs.Ranking.{range_of}
 use Rattle.ranked.proofs.Removals.{lawful_range_removal}
 use Rattle.ranked.proofs.Shifts.{closed_over}
 use Rattle.ranked.proofs.slots.take_range.Goals as goal
@@ -18,5 +19,5 @@ returns g c =
     ∙ closed_over c.args.slots.now n i j c.requires.0 c.requires.1 c.requires.2 in
     record {
       after = is;
-      laws = subst (λ (ys : List g.row.E.Denot). LawfulRangeRemoval g.E.Ranked.ahead g.E.Ranked.serial was ys) (sym is) (lawful_range_removal g.E.Ranked.ahead g.E.Ranked.serial was i j c.requires.0);
+      laws = subst (λ (ys : List g.row.E.Denot). LawfulRangeRemoval g.E.Ranked.ahead g.E.Ranked.serial was (range_of i j was) ys) (sym is) (lawful_range_removal g.E.Ranked.ahead g.E.Ranked.serial was i j c.requires.0);
     }
