@@ -1,4 +1,4 @@
--- Which lines are passed over.
+-- The words of a line by their places, and which lines are passed over.
 use Rattle.std.specs.Prelude.{ℕ, Bool, ◌||◌, List, [], length, ◌==◌, slice_index, slice_index_or}
 
 -- a word by its place

@@ -1,4 +1,4 @@
-// Which lines are passed over.
+// The words of a line, one by one, and which lines are passed over.
 
 #![tactic(auto)]
 
