@@ -44,14 +44,17 @@ impl From<Reason> for ReaderFault {
     }
 }
 
-// The whole refusal, at the station of the reader.
+// The whole refusal, at the station of the reader, for one of the reader's four reasons.
 impl From<ReaderFault> for Refusal {
     ghost from_gives = { λ fault refusal. refusal ≡ reader_refusal fault };
 
     fn from(fault: ReaderFault) -> Refusal {
         Refusal {
             station: Station::Reader,
-            reason: fault.reason,
+            reason: match fault.reason {
+                Reason::Length | Reason::Edition | Reason::Kind => fault.reason,
+                _ => Reason::Field,
+            },
             bit: fault.bit,
         }
     }
