@@ -1,10 +1,7 @@
 -- Words of two hexadecimal digits.
-use Rattle.std.proofs.Common.{◌≡◌, ℕ, zero, suc, ◌+◌, ◌-◌, ◌^◌, Bool, false, ◌*◌, ◌/◌, ◌%◌, ◌<◌, ◌≤◌, true, ◌&&◌, ltb, leb, List, [], ◌∷◌, length, get_or, Some, Option, subst, eqb, sym, refl, inl, inr, arith}
+use Rattle.std.proofs.Common.{◌≡◌, ℕ, ◌+◌, ◌*◌, ◌/◌, ◌%◌, ◌<◌, ◌≤◌, true, ◌&&◌, ltb, leb, List, [], ◌∷◌, length, get_or, Some, Option, sym, refl, inl, inr, arith}
 use Rattle.std.specs.Option.{SomeIff}
-use Rattle.std.specs.Str.{bytes_eq}
-use Rattle.std.proofs.lemmas.Slice.Eq.{bytes_eq-Decides}
-use Rattle.std.specs.Fmt.{format_spec, padded_integral, shown_prefix, radix_prefix, radix_digits, char_count, digits}
-use Rattle.std.proofs.lemmas.Bool.{and_parts, and_from, or_cases, or_left, or_right, leb-true, le-leb, ltb-true, ltb-false, eqb-true, eqb-false, cond_both, both_ways}
+use Rattle.std.proofs.lemmas.Bool.{and_parts, and_from, or_cases, or_left, or_right, leb-true, le-leb, ltb-true, ltb-false, cond_both, both_ways}
 use Rattle.std.proofs.lemmas.Bool.Decides.{nat_tests}
 use Rattle.numbers.proofs.Checks.{same_checked}
 use Rattle.hex_bytes.specs.Bytes.{HexDigit, is_hex_digit, hex_value, HexByte, byte_value, byte_in, hex_digit, hex_of}
@@ -57,27 +54,3 @@ byte_back b h =
     let low = hex_digit_back (b % 16) (omega arith) in
     let same : b ≡ byte_value (hex_of b) = omega (arith, high.1, low.1) in
     sym (byte_answered (hex_of b) (Some b) (two_digits _ refl high.0 low.0, same))
-
--- what `{byte:02X}` writes
-abbrev pub padded_hex : ℕ → List ℕ
-padded_hex b = let two_wide = format_spec 32 0 4 2 (2 ^ 64 - 1) in padded_integral two_wide false (shown_prefix two_wide (radix_prefix 16)) (radix_digits 16 true b)
-
--- the same for each byte below a number
-abbrev agree_below : ℕ → Bool
-agree_below zero = true
-agree_below (suc n) = bytes_eq (padded_hex n) (hex_of n) && agree_below n
-
-all_agree : agree_below 256 ≡ true
-unfolding padded_integral char_count digits
-all_agree = refl
-
-agreed : (n b : ℕ) → agree_below n ≡ true → b < n → padded_hex b ≡ hex_of b
-agreed zero b e h = absurd (omega arith)
-agreed (suc n) b e h =
-    let p = and_parts _ _ e in
-    cond_both (eqb b n) true true (λ _. padded_hex b ≡ hex_of b)
-    (λ t. subst (λ k. padded_hex k ≡ hex_of k) (sym (eqb-true b n t)) ((bytes_eq-Decides (padded_hex n) (hex_of n)).0 p.0))
-    (λ f. agreed n b p.1 (let ne = eqb-false b n f in omega (arith, ne)))
-
-pub shown_hex : (b : ℕ) → b < 256 → padded_hex b ≡ hex_of b
-shown_hex b h = agreed 256 b all_agree h
