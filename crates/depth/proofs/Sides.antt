@@ -1,8 +1,9 @@
 -- Where the lots of a side stand among all lots.
-use Rattle.std.proofs.Common.{◌≡◌, ℕ, zero, suc, ◌+◌, ◌-◌, ◌≤◌, Bool, true, false, List, [], ◌∷◌, ◌++◌, length, take, drop, sym, refl, ap, ◌∙◌, subst, inl, inr, one-add, arith}
-use Rattle.std.specs.List.{prefix_len, sum_by, AllByRecursion}
+use Rattle.std.proofs.Common.{◌≡◌, ℕ, zero, suc, ◌+◌, ◌-◌, ◌<◌, ◌≤◌, Bool, true, false, not, List, [], ◌∷◌, ◌++◌, length, get_or, take, drop, sym, refl, ap, ◌∙◌, subst, inl, inr, one-add, arith}
+use Rattle.std.specs.List.{position_from, prefix_len, sum_by, AllByRecursion}
+use Rattle.std.specs.Option.{unwrap_or}
 use Rattle.std.specs.List.Sorted.{IsPartitionedBy, IsPartitionPoint}
-use Rattle.std.proofs.ByRecursion.{All-weaker, All-get_or}
+use Rattle.std.proofs.ByRecursion.{All-weaker, All-get_or, All-take}
 use Rattle.std.proofs.lemmas.List.{take-append-drop, drop-drop, append-nil, length-drop}
 use Rattle.std.proofs.lemmas.List.Sums.{prefix_len-le-length, prefix_len_is}
 use Rattle.std.proofs.lemmas.List.Recursion.{is_sum_by}
@@ -37,6 +38,39 @@ module _ {X : Type 0} (p : X → Bool) where
   pub point_is : (xs : List X) (n : ℕ) (d : X) → n ≤ length xs → IsPartitionPoint (λ y. p y ≡ true) (λ y. p y ≡ false) xs n → n ≡ prefix_len p xs
   point_is xs n d le point = sym (prefix_len_is p xs n d le (λ k l. point.0 k d (omega arith) l) (λ l. point.1 n d (omega arith) l))
 
+  -- no more pass at the front than stand before one that fails
+  pub stops_at : (xs : List X) (i : ℕ) (x d : X) → i < length xs → x ≡ get_or xs i d → p x ≡ false → prefix_len p xs ≤ i
+  stops_at [] i x d lt at fails = absurd (omega arith)
+  stops_at (y ∷ xs) zero x d lt at fails = let count : prefix_len p (y ∷ xs) ≡ 0 = cond-false _ _ _ (ap p (sym at) ∙ fails) in omega (arith, count)
+  stops_at (y ∷ xs) (suc i) x d lt at fails =
+      elim (cases_Bool (p y)) [
+        | inl e ↦
+            let count : prefix_len p (y ∷ xs) ≡ suc (prefix_len p xs) = cond-true _ _ _ e ∙ one-add (prefix_len p xs) in
+            let more = stops_at xs i x d (omega arith) at fails in
+            omega (arith, count, more)
+        | inr e ↦ let count : prefix_len p (y ∷ xs) ≡ 0 = cond-false _ _ _ e in omega (arith, count)
+      ]
+
+  -- those that pass at the front are all among the first n
+  pub taken_front : (n : ℕ) (xs : List X) → prefix_len p xs ≤ n → prefix_len p (take n xs) ≡ prefix_len p xs
+  taken_front zero xs le = omega arith
+  taken_front (suc n) [] le = refl
+  taken_front (suc n) (y ∷ xs) le =
+      elim (cases_Bool (p y)) [
+        | inl e ↦
+            let count : prefix_len p (y ∷ xs) ≡ suc (prefix_len p xs) = cond-true _ _ _ e ∙ one-add (prefix_len p xs) in
+            let taken : prefix_len p (y ∷ take n xs) ≡ suc (prefix_len p (take n xs)) = cond-true _ _ _ e ∙ one-add (prefix_len p (take n xs)) in
+            taken ∙ ap suc (taken_front n xs (omega (arith, count))) ∙ sym count
+        | inr e ↦ cond-false _ _ _ e ∙ sym (cond-false _ _ _ e)
+      ]
+
+  -- where the first that fails is found
+  pub fails_at : (i : ℕ) (xs : List X) (n : ℕ) → n ≡ i + length xs → unwrap_or (position_from (λ x. not (p x)) i xs) n ≡ i + prefix_len p xs
+  fails_at i [] n all = omega arith
+  fails_at i (x ∷ xs) n all =
+      let more = fails_at (i + 1) xs n (omega arith) in
+      elim (cases_Bool (p x)) [ inl h ↦ simp h (more ∙ omega arith) | inr h ↦ simp h (omega arith) ]
+
   first_pass : (xs : List X) → AllByRecursion (λ x. p x ≡ true) (take (prefix_len p xs) xs)
   first_pass [] = tt
   first_pass (x ∷ xs) =
@@ -48,6 +82,12 @@ module _ {X : Type 0} (p : X → Bool) where
             let count : prefix_len p (x ∷ xs) ≡ 0 = cond-false _ _ _ e in
             subst (λ k. AllByRecursion (λ y. p y ≡ true) (take k (x ∷ xs))) (sym count) tt
       ]
+
+-- the first entries are to one another what they were
+pub taken_pairwise : {X : Type 0} (R : X → X → Type 0) (n : ℕ) (xs : List X) → Pairwise R xs → Pairwise R (take n xs)
+taken_pairwise R zero xs a = tt
+taken_pairwise R (suc n) [] a = tt
+taken_pairwise R (suc n) (x ∷ xs) a = (All-take (R x) n xs a.0, taken_pairwise R n xs a.1)
 
 module _ (s : ℕ) (d : Side) where
   past_on : (xs : List PostedLot) → Sorted lot_ahead xs → AllByRecursion (λ x. stands_before s d x ≡ false) xs → AllByRecursion (λ x. stands_on s d x ≡ false) (drop (prefix_len (stands_on s d) xs) xs)

@@ -2,6 +2,7 @@
 //! simple book is asked for them, and that the lots stand in rank is asked where it is needed: the list itself promises no rank.
 
 ghost use Rattle.std.specs.Prelude.{◌≡◌, ◌+◌, ◌≤◌, length};
+ghost use Rattle.std.specs.List.{prefix_len};
 ghost use Rattle.simple.specs.Limits.{side_limit};
 ghost use Rattle.simple.specs.Lots.{contracts};
 ghost use Rattle.simple.specs.Best.{best_of, best_size, customer_part, joined};
@@ -25,18 +26,42 @@ fn is_on(lot: &PostedLot, series: u32, side: Side) -> bool
 fn is_before(lot: &PostedLot, series: u32, side: Side) -> bool
     ensures { result ≡ stands_before series side lot.now }
 {
-    let offer = lot.side == Side::Offer;
-    (lot.series, offer) < (series, side == Side::Offer)
+    // tuples of keys were tried here, and make the best of a small book a third dearer
+    lot.series < series || lot.series == series && lot.side == Side::Bid && side == Side::Offer
 }
 
-/// The places of a side's lots, found by halving: all lots stand in rank.
+/// Of lots in rank, a number behind which none stands before a side, at most about twice as many as do: looked for at places that
+/// double, so that what follows costs little where the side is near. A `for`: a search over `successors` would be no plainer.
+fn reach(lots: &[PostedLot], series: u32, side: Side) -> usize
+    ensures within { result ≤ length lots.now }
+    ensures enough { prefix_len (stands_before series side) lots.now ≤ result }
+{
+    let mut place = 0_usize;
+    for _ in 0..usize::BITS {
+        let Some(lot) = lots.get(place) else {
+            return lots.len();
+        };
+        if !is_before(lot, series, side) {
+            return place;
+        }
+        place = place.saturating_mul(2).saturating_add(1);
+    }
+    lots.len()
+}
+
+/// The places of a side's lots: all lots stand in rank, so the first is found by halving what is in reach, and the others behind it.
 pub(crate) fn places(lots: &[PostedLot], series: u32, side: Side) -> Range<usize>
     requires { Sorted lot_ahead lots.now }
     ensures bounds { (result.start ≤ result.end) × (result.end ≤ length lots.now) }
     ensures stretch { Stretch series side lots.now result.start result.end }
 {
-    let first = lots.partition_point(|lot| is_before(lot, series, side));
-    let count = lots[first..].partition_point(|lot| is_on(lot, series, side));
+    let near = &lots[..reach(lots, series, side)];
+    let first = near.partition_point(|lot| is_before(lot, series, side));
+    let rest = &lots[first..];
+    let count = rest
+        .iter()
+        .position(|lot| !is_on(lot, series, side))
+        .unwrap_or(rest.len());
     first..first + count
 }
 

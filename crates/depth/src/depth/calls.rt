@@ -14,7 +14,7 @@ use crate::side;
 use lots::PostedLot;
 use ranked::RankedList;
 use refusals::{Reason, Refusal, Station};
-use simple::{Best, Lot, Side, SimpleBook, allow_take};
+use simple::{Best, Lot, Side, SimpleBook};
 
 // Each removal says that the counts stay: a fact of before and after, which no type can hold.
 impl<'a> DepthBook<'a> {
@@ -68,7 +68,7 @@ impl<'a> DepthBook<'a> {
         ensures lots { depth_lots self.new ≡ after result (taken (depth_lots self.old) series side quantity) (depth_lots self.old) }
         ensures counts { counts self.new ≡ counts self.old }
     {
-        allow_take(series, side::best(self.of_side(series, side)), quantity)?;
+        self.allow(series, side, quantity)?;
         self.reduce(series, side, quantity);
         Ok(())
     }

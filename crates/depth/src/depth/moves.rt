@@ -17,7 +17,7 @@ use crate::limits::{LOT_PLACES, MOST_POSTED};
 use crate::{side, trade};
 use lots::PostedLot;
 use refusals::{Reason, Refusal, Station};
-use simple::{HIGHEST_PRICE, LAST_SERIES, LOT_LIMIT, Lot, SIDE_LIMIT, Side};
+use simple::{HIGHEST_PRICE, LAST_SERIES, LOT_LIMIT, Lot, SIDE_LIMIT, Side, allow_take};
 
 impl<'a> DepthBook<'a> {
     /// The lots of a side.
@@ -86,6 +86,16 @@ impl<'a> DepthBook<'a> {
         ensures counts { counts self.new ≡ counts self.old }
     {
         let _ = self.lots.remove(place);
+    }
+
+    /// Whether a quantity can be taken from a side, or why not; what is refused whatever stands there is not looked for.
+    pub(crate) fn allow(&self, series: u32, side: Side, quantity: u32) -> Result<(), Refusal>
+        ensures { result ≡ take_answer (depth_lots self.now) series side quantity }
+    {
+        if series > LAST_SERIES || quantity == 0 {
+            return allow_take(series, None, quantity);
+        }
+        allow_take(series, side::best(self.of_side(series, side)), quantity)
     }
 
     /// Takes a quantity that was allowed from the front of a side.
