@@ -1,5 +1,7 @@
 // The text of what was read, written or refused.
-ghost use Rattle.std.specs.Prelude.{◌≡◌, IfOk, string_bytes};
+ghost use Rattle.std.specs.Prelude.{◌≡◌, IfOk, Some, string_bytes};
+ghost use Rattle.std.specs.Fmt.{signed_decimal};
+ghost use Rattle.numbers.specs.Numbers.{signed_in};
 ghost use Rattle.contents.specs.Editions.{edition_code};
 ghost use Rattle.gateway.specs.Texts.{time_text, limit_text, message_text, is_beyond, reread, warning_text};
 
@@ -15,9 +17,11 @@ fn time_text(code: u64) -> &'static str
     }
 }
 
-// The flag and the number are two fields of a message, and a market order may have a number that is not 0.
+// The flag and the number are two fields of a message, and a market order may have a number that is not 0. Read again the number
+// is the same.
 fn limit_text(heap: Global, market: bool, limit: i64) -> Result<String, AllocError>
-    ensures { IfOk result (λ t. string_bytes t ≡ limit_text market limit) }
+    ensures text { IfOk result (λ t. string_bytes t ≡ limit_text market limit) }
+    ensures read_again { signed_in (signed_decimal limit) ≡ Some limit }
 {
     match (market, limit) {
         (true, 0) => "market".to_string(heap),
@@ -74,9 +78,11 @@ fn reread(limit: i64) -> i64
     }
 }
 
-// The warning of a limit that is beyond what the engine takes.
+// The warning of a limit that is beyond what the engine takes. Read again both numbers are the same.
 pub(crate) fn warning_text(heap: Global, limit: i64) -> Result<String, AllocError>
-    ensures { IfOk result (λ t. string_bytes t ≡ warning_text limit) }
+    ensures text { IfOk result (λ t. string_bytes t ≡ warning_text limit) }
+    ensures read_again { signed_in (signed_decimal limit) ≡ Some limit }
+    ensures reread_again { signed_in (signed_decimal (reread limit)) ≡ Some (reread limit) }
 {
     let again = reread(limit);
     format!(in heap; "warning limit {limit} is beyond 40000000, in edition 2 it reads {again}")
